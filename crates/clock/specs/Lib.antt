@@ -1,0 +1,5 @@
+pub mod OffsetClock
+pub mod Reading
+pub mod SplitClock
+pub mod StopClock
+pub mod Turns
