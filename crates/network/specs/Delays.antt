@@ -5,6 +5,7 @@ use mathlib.Core.Path.{_≡_}
 use Prim.Native.Nat.{ℕ, suc, _+_, _%_, max}
 use lib.Dec.{eqb}
 use lib.ListN.{length, getD}
+use Rattle.network.specs.declared.delays.Recording.{Recording}
 
 -- the greatest of some delays, 0 of none
 abbrev pub greatest : List ℕ → ℕ
@@ -22,6 +23,13 @@ entry ds n = getD ds (n % length ds) 0
 -- a recorded list, from the entry at which each link stands
 abbrev pub traced-delay : List ℕ → List ℕ → (link nth : ℕ) → ℕ
 traced-delay ds at k nth = entry ds (getD at k 0 + nth)
+
+-- what a recording means
+abbrev pub recorded-delay : Recording → (link nth : ℕ) → ℕ
+recorded-delay s = traced-delay (s .delays .now) (s .at)
+
+abbrev pub recorded-longest : Recording → ℕ
+recorded-longest s = greatest (s .delays .now)
 
 -- the next delay of a link is handed out, and its record counts as accepted
 pub record Next (delay delay′ : (link nth : ℕ) → ℕ) (k d : ℕ) : Type 0 where

@@ -5,6 +5,7 @@ use lib.ListN.{length, getD, take, drop}
 use Rattle.std.specs.declared.option.Option.the-variants.{Some}
 use Rattle.std.specs.Options.{mapped}
 use Rattle.network.specs.declared.ring.Ring.{Ring}
+use Rattle.network.specs.declared.rings.Rings.{Rings}
 use Rattle.network.specs.declared.rings.Slot.{Slot}
 use Rattle.network.specs.Network.{Link, Net, Formula, capped, idle}
 use Rattle.network.specs.Ring.{ring-size, place, blank}
@@ -36,6 +37,11 @@ ringed size slots rings delay longest = record {
   longest = capped longest;
   formula = delayed delay;
 }
+
+-- what a struct of rings means, by what its delays mean
+abbrev pub rings-net : {R D : Type 0} → (D → (link nth : ℕ) → ℕ) → (D → ℕ) → Rings R D → Net R
+rings-net delay longest s =
+    ringed (ring-size (length (s .slots .now))) (s .slots .now) (s .rings) (delay (s .delays)) (longest (s .delays))
 
 -- an unused network of rings in so many slots
 abbrev pub unused : {R : Type 0} → ℕ → ((link nth : ℕ) → ℕ) → ℕ → Net R

@@ -3,7 +3,7 @@ ghost use mathlib.Core.Path.{_≡_};
 ghost use Prim.Native.Nat.{ℕ, _+_, _%_, _<_, _≤_};
 ghost use lib.Dec.{eqb};
 ghost use lib.ListN.{getD, length};
-ghost use Rattle.network.specs.Delays.{Next, entry, fixed-delay, greatest, traced-delay};
+ghost use Rattle.network.specs.Delays.{Next, entry, fixed-delay, greatest, recorded-delay, recorded-longest};
 use crate::network::LINKS;
 
 // Where a network takes the delays of its records from.
@@ -54,7 +54,7 @@ pub struct Recording<'a> {
 impl<'a> Recording<'a> {
     pub(crate) fn new(delays: &'a [u32]) -> Recording<'a>
         ensures delays { λ r. ⌜ r .delays .now ≡ now (delays .entry) ⌝ }
-        ensures start { λ r. ⌜ traced-delay (r .delays .now) (r .at) ≡ (λ _ nth. entry (now (delays .entry)) nth) ⌝ }
+        ensures start { λ r. ⌜ recorded-delay r ≡ (λ _ nth. entry (now (delays .entry)) nth) ⌝ }
     {
         Recording {
             delays,
@@ -64,9 +64,9 @@ impl<'a> Recording<'a> {
 }
 
 pub impl<'a> Delays for Recording<'a> as RecordedDelays {
-    ghost delay = { λ s. traced-delay (s .delays .now) (s .at) };
+    ghost delay = { recorded-delay };
 
-    ghost longest = { λ s. greatest (s .delays .now) };
+    ghost longest = { recorded-longest };
 
     fn longest(&self) -> u32 {
         greatest_of(self.delays)

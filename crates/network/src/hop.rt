@@ -15,7 +15,7 @@ impl<N> Hop<N> {
     where
         N: Network<R>,
         ensures net { λ r. ⌜ hopped (r .shift .extra) (N·Network .meaning (r .below)) ≡ hopped extra (N·Network .meaning below) ⌝ }
-        ensures idle { λ _. ⌜ (Unused (N·Network .meaning below) → Unused (hopped extra (N·Network .meaning below))) ⌝ }
+        ensures idle { λ r. ⌜ (Unused (N·Network .meaning below) → Unused (hopped (r .shift .extra) (N·Network .meaning (r .below)))) ⌝ }
     {
         Layer::over(below, Later { extra })
     }

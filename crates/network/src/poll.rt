@@ -16,7 +16,7 @@ impl<N> Poll<N> {
     where
         N: Network<R>,
         ensures net { λ r. ⌜ polled (r .shift .gap) (N·Network .meaning (r .below)) ≡ polled gap (N·Network .meaning below) ⌝ }
-        ensures idle { λ _. ⌜ (Unused (N·Network .meaning below) → Unused (polled gap (N·Network .meaning below))) ⌝ }
+        ensures idle { λ r. ⌜ (Unused (N·Network .meaning below) → Unused (polled (r .shift .gap) (N·Network .meaning (r .below)))) ⌝ }
     {
         Layer::over(below, RoundUp { gap })
     }

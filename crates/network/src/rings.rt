@@ -2,8 +2,9 @@ ghost use mathlib.Core.Path.{_≡_};
 ghost use Prim.Native.Nat.{ℕ, _<_, min};
 ghost use lib.Dec.{leb};
 ghost use lib.ListN.{getD, length};
+ghost use Rattle.network.specs.Network.{Unused};
 ghost use Rattle.network.specs.Ring.{blank, place, ring-size};
-ghost use Rattle.network.specs.Rings.{ringed, unused};
+ghost use Rattle.network.specs.Rings.{rings-net, unused};
 use crate::delays::Delays;
 use crate::network::END;
 use crate::network::LINKS;
@@ -45,7 +46,8 @@ pub struct Rings<'a, R, D> {
 impl<'a, R, D: Delays> Rings<'a, R, D> {
     // An unused network. Its links share the slots evenly.
     pub(crate) fn with_delays(slots: &'a mut [Slot<R>], delays: D) -> Rings<'a, R, D>
-        ensures { λ r. ⌜ ringed (ring-size (length (r .slots .now))) (r .slots .now) (r .rings) (D·Delays .delay (r .delays)) (D·Delays .longest (r .delays)) ≡ unused (length (now (slots .entry))) (D·Delays .delay delays) (D·Delays .longest delays) ⌝ }
+        ensures net { λ r. ⌜ rings-net (D·Delays .delay) (D·Delays .longest) r ≡ unused (length (now (slots .entry))) (D·Delays .delay delays) (D·Delays .longest delays) ⌝ }
+        ensures idle { λ r. ⌜ Unused (rings-net (D·Delays .delay) (D·Delays .longest) r) ⌝ }
     {
         Rings {
             slots,
@@ -68,7 +70,7 @@ impl<'a, R: Copy, D> Rings<'a, R, D> {
 }
 
 pub impl<'a, R: Copy, D: Delays> Network<R> for Rings<'a, R, D> as RingsNetwork {
-    ghost meaning = { λ s. ringed (ring-size (length (s .slots .now))) (s .slots .now) (s .rings) (D·Delays .delay (s .delays)) (D·Delays .longest (s .delays)) };
+    ghost meaning = { rings-net (D·Delays .delay) (D·Delays .longest) };
 
     fn capacity(&self) -> usize {
         ring_size(self.slots.len())

@@ -9,6 +9,10 @@ use Rattle.network.proofs.trace.Trace+R.new.Needs as need
 pub returns : need.returns
 returns g c =
     let n = length (c .args .slots .now) in
-    c .with-delays .ensures
-    ∙ ap (λ (d : ℕ → ℕ → ℕ). unused n d (greatest (c .new .result .delays .now))) (c .new .ensures .start)
-    ∙ ap (λ (ds : List ℕ). unused n (λ _ nth. entry (c .args .delays .now) nth) (greatest ds)) (c .new .ensures .delays)
+    record {
+      net =
+          c .with-delays .ensures .net
+          ∙ ap (λ (d : ℕ → ℕ → ℕ). unused n d (greatest (c .new .result .delays .now))) (c .new .ensures .start)
+          ∙ ap (λ (ds : List ℕ). unused n (λ _ nth. entry (c .args .delays .now) nth) (greatest ds)) (c .new .ensures .delays);
+      idle = c .with-delays .ensures .idle;
+    }
