@@ -1,0 +1,4 @@
+pub mod Lex
+mod Sift
+mod Ranking
+mod Calls
