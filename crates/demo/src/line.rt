@@ -1,9 +1,9 @@
 ghost use mathlib.Core.Bool.{true, false};
 ghost use mathlib.Core.Path.{_≡_};
-ghost use Prim.Native.Nat.{ℕ, _<_, _≤_};
+ghost use Prim.Native.Nat.{ℕ, _<_};
 ghost use Rattle.std.specs.Options.{Cases as BySome};
 ghost use Rattle.network.specs.Network.{is-waiting};
-ghost use Rattle.demo.specs.Line.{HandedOut, Held, due};
+ghost use Rattle.demo.specs.Line.{HandedOut, Held};
 use clock::StopClock;
 use network::Network;
 

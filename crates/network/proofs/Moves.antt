@@ -1,13 +1,13 @@
 -- What a layer that moves arrivals on keeps of the network below it, once for every such layer.
-use mathlib.Core.Bool.{Bool, true, false, cond, _&&_}
-use mathlib.Core.List.{List, [], _∷_, _++_, map, map-append}
+use mathlib.Core.Bool.{true, _&&_}
+use mathlib.Core.List.{List, [], _∷_, map, map-append}
 use mathlib.Core.Logic.{⊎-elim}
-use mathlib.Core.Path.{_≡_, refl, sym, ap, subst, _∙_}
-use Prim.Native.Nat.{ℕ, suc, _+_, _-_, _*_, _/_, _%_, _≤_, _<_, min, max}
+use mathlib.Core.Path.{_≡_, ap, _∙_}
+use Prim.Native.Nat.{ℕ, _+_, _-_, _*_, _/_, _%_, _≤_, _<_, max}
 use native.Mathlib.Nat.{add-mul}
 use native.Mathlib.Omega.{arith}
-use lib.Dec.{eqb, leb, ltb}
-use lib.ListN.{length, length-map}
+use lib.Dec.{ltb}
+use lib.ListN.{length-map}
 use Rattle.std.proofs.shelf.Bits.{div-add-mod', mod-below, le-div, div-below, mul-le}
 use Rattle.std.proofs.shelf.Tests.{cases-lt}
 use Rattle.std.proofs.shelf.Ways.{tells}
@@ -15,9 +15,9 @@ use Rattle.std.specs.declared.option.Option.{Option}
 use Rattle.std.specs.declared.option.Option.the-variants.{Some, None}
 use Rattle.std.specs.declared.result.Result.{Result}
 use Rattle.std.specs.declared.result.Result.the-variants.{Ok, Err}
-use Rattle.std.specs.Options.{Cases as BySome, mapped, valueOr}
-use Rattle.network.specs.Network.{Link, Net, limit, capped, has-room, accepts, arrived, is-waiting, earliest, Follows, Added, Only, counted, Sent, Refused, Sends, Taken, Nothing, Takes}
-use Rattle.network.specs.Layer.{moved, layered, Moves, hop-at, gap, poll-at, Before}
+use Rattle.std.specs.Options.{mapped}
+use Rattle.network.specs.Network.{Net, limit, capped, has-room, accepts, arrived, is-waiting, earliest, Follows, Only, Sends, Takes}
+use Rattle.network.specs.Layer.{moved, layered, Moves, hop-at, poll-at, Before}
 
 module _ (f : ℕ → ℕ) (x : ℕ) (v : Moves f x) where
   -- the bounds of an arrival are moved with it

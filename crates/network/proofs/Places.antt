@@ -1,13 +1,13 @@
 -- Rings in one list of slots: where their records lie, and what a send and a take leave of them.
-use mathlib.Core.Bool.{Bool, true, false, cond, _&&_}
+use mathlib.Core.Bool.{true, false}
 use mathlib.Core.List.{List, [], _∷_, _++_, map, append-assoc, append-nil, map-append}
-use mathlib.Core.Logic.{_⊎_, inl, inr, ⊎-elim}
+use mathlib.Core.Logic.{_⊎_, ⊎-elim}
 use mathlib.Core.Path.{_≡_, refl, sym, ap, fun-ext, _∙_}
-use Prim.Native.Nat.{ℕ, zero, suc, _+_, _-_, _*_, _/_, _%_, _≤_, _<_, min, max}
+use Prim.Native.Nat.{ℕ, zero, suc, _+_, _-_, _*_, _/_, _%_, _≤_, _<_, min}
 use native.Mathlib.Nat.{add-mul, mod-add-mod}
 use native.Mathlib.Numerals.{add-one}
 use native.Mathlib.Omega.{arith}
-use lib.Dec.{eqb, leb, ltb}
+use lib.Dec.{leb, ltb}
 use lib.ListN.{length, getD, set, take, drop, replicate, length-set, length-append, length-take, length-drop, length-map}
 use lib.Seq.{drop-cons}
 use Rattle.std.proofs.shelf.Bits.{div-add-mod', mod-below, mul-le, mul-add-lt, div-mul-add}
@@ -16,11 +16,11 @@ use Rattle.std.proofs.shelf.Tests.{cases-lt}
 use Rattle.std.proofs.shelf.Ways.{tells}
 use Rattle.std.specs.declared.option.Option.{Option}
 use Rattle.std.specs.declared.option.Option.the-variants.{Some, None}
-use Rattle.std.specs.Options.{mapped, valueOr}
+use Rattle.std.specs.Options.{mapped}
 use Rattle.network.specs.declared.ring.Ring.{Ring}
 use Rattle.network.specs.declared.rings.Slot.{Slot}
 use Rattle.network.specs.Delays.{Next}
-use Rattle.network.specs.Network.{Link, Net, limit, capped, has-room, accepts, arrived, is-waiting, earliest, Follows, Added, Only, Sent, Taken}
+use Rattle.network.specs.Network.{Link, limit, capped, has-room, arrived, is-waiting, earliest, Sent, Taken}
 use Rattle.network.specs.Ring.{ring-size, place, blank, ring-sent, ring-taken}
 use Rattle.network.specs.Rings.{reads, pair-of, ring-link, delayed, ringed, unused}
 use Rattle.network.proofs.Entries.{getD-replicate}

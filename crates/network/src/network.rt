@@ -1,5 +1,5 @@
 ghost use mathlib.Core.Path.{_≡_};
-ghost use Prim.Native.Nat.{ℕ, _≤_};
+ghost use Prim.Native.Nat.{_≤_};
 ghost use Rattle.network.specs.Network.{Net, Sends, Takes, has-room, is-waiting, limit};
 
 // A network has so many links, numbered from 0.

@@ -1,5 +1,5 @@
 ghost use mathlib.Core.Path.{_≡_};
-ghost use Prim.Native.Nat.{ℕ, _<_, min};
+ghost use Prim.Native.Nat.{_<_, min};
 ghost use lib.Dec.{leb};
 ghost use lib.ListN.{getD, length};
 ghost use Rattle.network.specs.Network.{Unused};

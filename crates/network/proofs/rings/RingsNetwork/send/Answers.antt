@@ -1,8 +1,7 @@
-use mathlib.Core.Path.{_≡_, sym, ap, _∙_}
+use mathlib.Core.Path.{sym, ap, _∙_}
 use native.Mathlib.Omega.{arith}
 use Prim.Native.Nat.{_+_, _*_, _<_, _≤_}
 use lib.ListN.{length, getD, set, length-set}
-use Rattle.std.proofs.shelf.Ways.{tells}
 use Rattle.network.specs.Network.{capped, earliest}
 use Rattle.network.specs.Ring.{blank, place, ring-size}
 use Rattle.network.proofs.Places.{roomy, ringed-sent}

@@ -1,8 +1,7 @@
-use mathlib.Core.Path.{_≡_, sym, ap, _∙_}
+use mathlib.Core.Path.{sym, ap, _∙_}
 use native.Mathlib.Omega.{arith}
-use Prim.Native.Nat.{_*_, _≤_, _<_, min}
+use Prim.Native.Nat.{_*_, _≤_, _<_}
 use lib.ListN.{length, getD}
-use Rattle.std.proofs.shelf.Ways.{tells}
 use Rattle.network.specs.Ring.{blank, ring-size, ring-taken}
 use Rattle.network.proofs.Places.{wait-tells, ringed-taken}
 use Rattle.network.proofs.rings.RingsNetwork.take.Needs as need

@@ -1,10 +1,10 @@
-use mathlib.Core.Path.{_≡_, sym, ap, _∙_}
+use mathlib.Core.Path.{sym, _∙_}
 use native.Mathlib.Omega.{arith}
 use Prim.Native.Nat.{_*_, _≤_, _<_, min}
 use lib.ListN.{length, getD}
 use Rattle.std.proofs.shelf.Ways.{tells}
 use Rattle.network.specs.Ring.{blank, ring-size}
-use Rattle.network.proofs.Places.{ringed-waiting, ringed-empty}
+use Rattle.network.proofs.Places.{ringed-waiting}
 use Rattle.network.proofs.rings.RingsNetwork.waiting.Needs as need
 
 pub returns : need.returns
