@@ -3,6 +3,8 @@
 // Code that needs a clock is written over `StopClock`, whose contracts say all that a clock does. `OffsetClock` and
 // `SplitClock` both do it, from readings that turn over, and keep no moment themselves.
 
+#![tactic(auto)]
+
 mod offset_clock;
 mod reading;
 mod split_clock;

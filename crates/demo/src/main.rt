@@ -1,5 +1,7 @@
 // A run through what stands so far, in two parts: market data on its way to the members, and orders in the book.
 
+#![tactic(auto)]
+
 mod batch;
 mod line;
 mod market;

@@ -1,4 +1,7 @@
 // Tests of sessions at the edges of their rules. There is nothing here but tests.
+
+#![tactic(auto)]
+
 #[cfg(test)]
 mod answer;
 #[cfg(test)]

@@ -5,8 +5,8 @@ use lib.Seq.{take-append-le}
 use Rattle.std.specs.List.{swap_remove}
 use Rattle.std.specs.Slice.{IsGetResult}
 use Rattle.std.specs.List.Sorted.{IsPermutation}
-use Rattle.std.proofs.Permutation.{every_shuffled, taken-first}
-use Rattle.std.proofs.lemmas.List.Sorted.{IsPermutation-trans, IsPermutation-sym, IsPermutation-cons, IsPermutation-to_front}
+use Rattle.std.proofs.Permutation.{every_shuffled}
+use Rattle.std.proofs.lemmas.List.Sorted.{IsPermutation-swap_remove, IsPermutation-trans, IsPermutation-sym, IsPermutation-cons, IsPermutation-to_front}
 use Rattle.heap.specs.Calls.{Peeks, PeeksFirst}
 use Rattle.heap.specs.Heaps.{AtRoot, First, Gap, Heaped}
 use Rattle.heap.proofs.Sift.{at_child, by, root_first}
@@ -32,7 +32,7 @@ added {X} xs ys ws zs x is s e = subst (IsPermutation (x ∷ xs)) (sym e) (IsPer
 -- the root and the rest are the elements before, and the sift only moves the rest
 pub taken : {X : Type 0} (xs ys ws zs : List X) (x : X) → 0 < length xs → AtRoot x xs → ys ≡ swap_remove xs 0 x → IsPermutation ys ws → zs ≡ ws → IsPermutation xs (x ∷ zs)
 taken {X} xs ys ws zs x some at is s e =
-    let front : IsPermutation xs (x ∷ ys) = subst (λ (l : List X). IsPermutation xs (x ∷ l)) (sym is) (taken-first xs x some at) in
+    let front : IsPermutation xs (x ∷ ys) = subst (λ (l : List X). IsPermutation xs (x ∷ l)) (sym is) (IsPermutation-swap_remove xs 0 x some at) in
     subst (λ (l : List X). IsPermutation xs (x ∷ l)) (sym e) (IsPermutation-trans xs (x ∷ ys) (x ∷ ws) front (IsPermutation-cons x ys ws s))
 
 module _ {X : Type 0} (R : X → X → Type 0) where

@@ -3,6 +3,8 @@
 // Adding never allocates, and at its bound the heap hands the element back. Taking hands out an element that no other
 // precedes.
 
+#![tactic(auto)]
+
 mod heap;
 mod ranked;
 #[cfg(test)]

@@ -1,5 +1,8 @@
 // Networks that carry records to sixteen links: what a network means, two that keep their records in a list of the
 // caller's, and two layers that stand over any network.
+
+#![tactic(auto)]
+
 mod delays;
 mod fixed;
 mod hop;

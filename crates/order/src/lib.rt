@@ -1,4 +1,7 @@
 // Calls of a session as values, runs of them, the law that holds of every run, and `play`, the call that it stands on.
+
+#![tactic(auto)]
+
 mod acting;
 mod call;
 mod event;

@@ -1,5 +1,8 @@
 // The plain records of a session and the rules that each keeps by itself: tags and watermarks, trades and their rank,
 // messages, batches, a seat's record, how far the market data has come, and why a call is refused.
+
+#![tactic(auto)]
+
 mod batch;
 mod flaw;
 mod line;

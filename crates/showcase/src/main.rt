@@ -5,6 +5,9 @@
 //   record   each call with its answer
 //   race     for each tick, the orders that answered it, by their place on the tape
 //   deals    the fills, and what became of each order
+
+#![tactic(auto)]
+
 mod deals;
 mod members;
 mod race;

@@ -44,7 +44,7 @@ impl<T> Heap<T> {
 impl<T: Ranked> Heap<T> {
     // An empty heap with room for `limit` elements.
     pub fn with_room(heap: Global, limit: usize) -> Result<Heap<T>, AllocError>
-        ensures { IfOk result (λ h. Fresh (Upto key upto) limit h) }
+        ensures { IfOk result (λ h. Fresh (Upto T.key T.upto) limit h) }
     {
         let items = Vec::with_capacity(heap, limit)?;
         Ok(Heap { items, limit })
@@ -53,7 +53,7 @@ impl<T: Ranked> Heap<T> {
     // The element that the next `take` hands out.
     pub fn peek(&self) -> Option<&T>
         ensures item { Peeks (held self.now) result }
-        ensures first { PeeksFirst (Upto key upto) (held self.now) result }
+        ensures first { PeeksFirst (Upto T.key T.upto) (held self.now) result }
     {
         self.root()
     }
@@ -61,7 +61,7 @@ impl<T: Ranked> Heap<T> {
     // Takes an element in, or hands it back where the heap holds as many as it may.
     pub fn add(&mut self, x: T) -> Result<(), T>
         ensures items { Adds self.old x result self.new }
-        ensures heaped { KeepsOrder (Upto key upto) (held self.old) (held self.new) }
+        ensures heaped { KeepsOrder (Upto T.key T.upto) (held self.old) (held self.new) }
         ensures limit { bound self.new ≡ bound self.old }
     {
         if self.is_full() {
@@ -75,8 +75,8 @@ impl<T: Ranked> Heap<T> {
     // Hands out an element that no other precedes, and keeps the others. Among equal keys any may come first.
     pub fn take(&mut self) -> Option<T>
         ensures items { Takes (held self.old) result (held self.new) }
-        ensures first { TakesFirst (Upto key upto) (held self.old) result (held self.new) }
-        ensures heaped { KeepsOrder (Upto key upto) (held self.old) (held self.new) }
+        ensures first { TakesFirst (Upto T.key T.upto) (held self.old) result (held self.new) }
+        ensures heaped { KeepsOrder (Upto T.key T.upto) (held self.old) (held self.new) }
         ensures limit { bound self.new ≡ bound self.old }
     {
         if self.is_empty() {

@@ -9,7 +9,7 @@ use crate::ranked::Ranked;
 pub fn sift_up<T: Ranked>(s: &mut [T], mut at: usize)
     requires { at < length s.old }
     ensures shuffled { IsPermutation s.old s.new }
-    ensures heaped { Gap (Upto key upto) s.old at × Under (Upto key upto) s.old at at → Heaped (Upto key upto) s.new }
+    ensures heaped { Gap (Upto T.key T.upto) s.old at × Under (Upto T.key T.upto) s.old at at → Heaped (Upto T.key T.upto) s.new }
 {
     while let Some(up) = parent(at) {
         if upto_at(s, up, at) {
@@ -23,7 +23,7 @@ pub fn sift_up<T: Ranked>(s: &mut [T], mut at: usize)
 // Moves the element at `at` down past the children that precede it.
 pub fn sift_down<T: Ranked>(s: &mut [T], mut at: usize)
     ensures shuffled { IsPermutation s.old s.new }
-    ensures heaped { Gap (Upto key upto) s.old at × Over (Upto key upto) s.old at → Heaped (Upto key upto) s.new }
+    ensures heaped { Gap (Upto T.key T.upto) s.old at × Over (Upto T.key T.upto) s.old at → Heaped (Upto T.key T.upto) s.new }
 {
     while let Some(child) = first_child(s, at) {
         if upto_at(s, at, child) {
@@ -36,7 +36,7 @@ pub fn sift_down<T: Ranked>(s: &mut [T], mut at: usize)
 
 // The child of `at` that comes no later than the other; a leaf has none.
 fn first_child<T: Ranked>(s: &[T], at: usize) -> Option<usize>
-    ensures { MatchOption result (length s.now ≤ at * 2 + 1) (λ c. Child at c × (c < length s.now) × Under (Upto key upto) s.now c at) }
+    ensures { MatchOption result (length s.now ≤ at * 2 + 1) (λ c. Child at c × (c < length s.now) × Under (Upto T.key T.upto) s.now c at) }
 {
     let Some(left) = left_child(at, s.len()) else {
         return None;
@@ -51,7 +51,7 @@ fn first_child<T: Ranked>(s: &[T], at: usize) -> Option<usize>
 fn earlier<T: Ranked>(s: &[T], i: usize) -> usize
     requires { i + 1 < length s.now }
     ensures place { (i ≤ result) × (result ≤ i + 1) }
-    ensures value { (d : T) → result ≡ (if upto (key (slice_index_or s.now i d)) (key (slice_index_or s.now (i + 1) d)) then i else i + 1) }
+    ensures value { (d : T) → result ≡ (if T.upto (T.key (slice_index_or s.now i d)) (T.key (slice_index_or s.now (i + 1) d)) then i else i + 1) }
 {
     if upto_at(s, i, i + 1) { i } else { i + 1 }
 }
@@ -59,7 +59,7 @@ fn earlier<T: Ranked>(s: &[T], i: usize) -> usize
 // Whether the key of the element at i comes before that of the one at j, or is the same.
 fn upto_at<T: Ranked>(s: &[T], i: usize, j: usize) -> bool
     requires { (i < length s.now) × (j < length s.now) }
-    ensures { (d : T) → upto (key (slice_index_or s.now i d)) (key (slice_index_or s.now j d)) ≡ result }
+    ensures { (d : T) → T.upto (T.key (slice_index_or s.now i d)) (T.key (slice_index_or s.now j d)) ≡ result }
 {
     s[i].precedes(&s[j])
 }

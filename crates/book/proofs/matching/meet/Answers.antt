@@ -16,6 +16,6 @@ loop-left-preserved g c =
     let fill = c.in-Some.ensures in
     let f = c.in-Some.fill in
     let lines = l.invariant.0.0 in
-    let ok : is_ok c.write.result ≡ true = w.room ∙ sym c.if-has-room.ensures in
+    let ok : is_ok c.write.result ≡ true = w.room ∙ sym c.if-has_room.ensures in
     let wrote = was_ok _ c.write.result w.line ok in
-    ((lines ++ f ∷ [], and_then (page c.args.fills.now) (page l.fills) (page c.write.new.self) lines (f ∷ []) l.invariant.0.1 wrote, one_more g.S.Quote.kind c.args.order.now (held c.args.side.now) (held l.side) (held c.fill-first.new.side) lines l.left f c.loop-left-test.true l.invariant.0.2 fill.fill), fill.stood, fill.limit ∙ l.invariant.2, w.same ∙ l.invariant.3)
+    ((lines ++ f ∷ [], and_then (page c.args.fills.now) (page l.fills) (page c.write.new.self) lines (f ∷ []) l.invariant.0.1 wrote, one_more g.S.Quote.kind c.args.order.now (held c.args.side.now) (held l.side) (held c.fill_first.new.side) lines l.left f c.loop-left-test.true l.invariant.0.2 fill.fill), fill.stood, fill.limit ∙ l.invariant.2, w.same ∙ l.invariant.3)

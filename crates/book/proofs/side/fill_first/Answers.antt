@@ -10,11 +10,11 @@ use Rattle.book.proofs.First.{ranked_first, first_crosses}
 use Rattle.book.proofs.side.fill_first.Goals as goal
 
 -- one was taken out, so that there is room
-pub put-back-requires : goal.put-back-requires
-put-back-requires g c =
+pub put_back-requires : goal.put_back-requires
+put_back-requires g c =
     let h = c.args.side.now in
-    let took = c.in-ok-first.ensures in
-    let some = length_permutation (held h) (c.in-ok-first.first ∷ held c.take.new.self) took.items.1 in
+    let took = c.in_ok-first.ensures in
+    let some = length_permutation (held h) (c.in_ok-first.first ∷ held c.take.new.self) took.items.1 in
     let within = h.within in
     let long = h.items.ok.0 in
     let limit = took.limit in
@@ -26,12 +26,12 @@ returns g c =
     let k = g.S.Quote.kind in
     let laws = g.met.S.Quote in
     let h = c.args.side.now in
-    let x = c.in-ok-first.first in
-    let took = c.in-ok-first.ensures in
+    let x = c.in_ok-first.first in
+    let took = c.in_ok-first.ensures in
     let others = held c.take.new.self in
     let left = c.args.left in
     let is = c.order-resting.ensures in
-    let back = c.put-back.ensures in
+    let back = c.put_back.ensures in
     let first : AllByRecursion (Before k x) others = ranked_first r.key r.upto k laws.ranks x others (took.first c.requires) in
     record {
       fill = record {
@@ -41,7 +41,7 @@ returns g c =
         first = first;
         crosses = first_crosses k laws.lawful _ x (held h) others took.items.1 first (sym c.crossed.ensures ∙ c.if-not-crossed.false);
         line = c.fill_of.ensures ∙ ap (fill_of c.args.order.now left) is;
-        rest = subst (λ (z : Resting). IsPermutation (left_over k left z ++ others) (held c.put-back.new.side)) is back.items;
+        rest = subst (λ (z : Resting). IsPermutation (left_over k left z ++ others) (held c.put_back.new.side)) is back.items;
       };
       stood = back.stood (took.heaped c.requires);
       limit = back.limit ∙ took.limit;

@@ -4,5 +4,5 @@ use Rattle.network.proofs.layer.room_through.Goals as goal
 
 pub returns : goal.returns
 returns g c =
-    let s = c.args.-shift.now in
+    let s = c.args._shift.now in
     c.room.ensures ∙ sym (room_moved (g.S.Shift.moves s) (g.S.Shift.most s) (g.N.Network.meaning c.args.below.now) c.args.link)

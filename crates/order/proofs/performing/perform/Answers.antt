@@ -11,9 +11,9 @@ pub loop-call-preserved : goal.loop-call-preserved
 loop-call-preserved g c =
     let inv = c.loop-call.invariant in
     let old = vec_items c.loop-call.events in
-    let new = vec_items c.push-reserved.new.self in
+    let new = vec_items c.push_reserved.new.self in
     let e = c.act.result in
-    let pushed = c.push-reserved.ensures.items in
+    let pushed = c.push_reserved.ensures.items in
     let acted = c.act.ensures in (
       search rules,
       calls_more c.args.calls.now c.loop-call.call-index (call.Point 0 0) old new e c.loop-call-test.true pushed inv.1 acted.made,

@@ -13,9 +13,9 @@ use Rattle.order.proofs.playing.play.Goals as goal
 law : Law
 law = record { conservation = conservation; responses = responses; equal_tapes = equal_tapes; settlement = settlement }
 
-pub returns-in-err-events : goal.returns-in-err-events
-returns-in-err-events g c =
-    let same = c.in-err-events.ensures in
+pub returns-in_err-events : goal.returns-in_err-events
+returns-in_err-events g c =
+    let same = c.in_err-events.ensures in
     let parts = opened_alike (plan c.args.layout) _ _ same.performed.0 in
     let desks = same.performed.1 in
     record {
@@ -30,10 +30,10 @@ returns-in-err-events g c =
 
 pub returns : goal.returns
 returns g c =
-    let played = c.in-ok-events.ensures in
+    let played = c.in_ok-events.ensures in
     let last = c.perform.new in
     let end = world last.session.state (g.F.Network.meaning last.forward) (g.R.Network.meaning last.reverse) (g.C.StopClock.meaning last.clock) (page last.points) (page last.tape) in
-    let events = reverse (vec_items c.in-ok-events.events) in
+    let events = reverse (vec_items c.in_ok-events.events) in
     record {
       played = record {
         made = played.performed.made;

@@ -2,7 +2,7 @@ use Rattle.std.proofs.Common.{ℕ, ◌+◌, ◌-◌, ◌<◌, drop, ap, ◌∙�
 use Rattle.showcase.specs.Race.{nth_answer, taken_off}
 use Rattle.showcase.proofs.Answering.{answered_nth, passed_nth, passed_one, unanswered_nth}
 use Rattle.showcase.proofs.race.collected.Goals as goal
-use Rattle.showcase.proofs.race.collected.Goals.{in-Some+else-ahead-eq0, in-default}
+use Rattle.showcase.proofs.race.collected.Goals.{in-Some+else-ahead-eq0, in_default}
 
 pub returns-then-ahead-eq0 : goal.returns-then-ahead-eq0
 returns-then-ahead-eq0 c =
@@ -21,7 +21,7 @@ loop-event-preserved c =
       | in-Some+else-ahead-eq0 w ↦
           let some-ahead : 0 < n = search rules in
           ap (λ (k : ℕ). nth_answer q k (drop (i + 1) xs)) w.ahead-is ∙ passed_one q xs i _ n (c.args.serial - 1) w.in-Some.at within inv w.in-Some.ensures some-ahead
-      | in-default w ↦ ap (λ (k : ℕ). nth_answer q k (drop (i + 1) xs)) w.ahead-is ∙ passed_nth q xs i _ n (c.args.serial - 1) within inv w.in-default.ensures
+      | in_default w ↦ ap (λ (k : ℕ). nth_answer q k (drop (i + 1) xs)) w.ahead-is ∙ passed_nth q xs i _ n (c.args.serial - 1) within inv w.in_default.ensures
     ]
 
 pub returns : goal.returns

@@ -8,55 +8,37 @@ use Rattle.book.proofs.Only.{settled}
 use Rattle.book.proofs.book.Book.take_order.Goals as goal
 
 -- the invariants after an incoming buy, and after an incoming sell
-pub invariant-of-self : goal.invariant-of-self
-invariant-of-self c =
+pub invariant_of-self : goal.invariant_of-self
+invariant_of-self c =
     let b = c.args.self.now in
     let is = c.in-Some.ensures in
     let e = c.deal.ensures in
-    let d = e.dealt.2 in (
-      e.here,
-      (
-        e.there,
-        (
-          e.limits.1 ∙ b.buys_room,
-          (
-            e.limits.0 ∙ b.sells_room,
-            (
-              λ x y i j. leb-false _ _ (clear_kept resting_sells resting_buys lawful_sells lawful_buys _ _ _ _ _ _ _ _ _ _ d (λ y x j i. lt-leb _ _ (b.apart x y i j)) y x j i),
-              (
-                numbered_here resting_sells resting_buys lawful_sells lawful_buys _ b.taken _ _ _ _ _ _ _ _ _ _ is.0 is.1 d b.buys_numbered,
-                (numbered_there resting_sells resting_buys lawful_sells lawful_buys _ b.taken _ _ _ _ _ _ _ _ _ _ is.0 is.1 d b.sells_numbered, tt),
-              ),
-            ),
-          ),
-        ),
-      ),
-    )
+    let d = e.dealt.2 in
+    record {
+      buys_stand = e.here;
+      sells_stand = e.there;
+      buys_room = e.limits.1 ∙ b.buys_room;
+      sells_room = e.limits.0 ∙ b.sells_room;
+      apart = λ x y i j. leb-false _ _ (clear_kept resting_sells resting_buys lawful_sells lawful_buys _ _ _ _ _ _ _ _ _ _ d (λ y x j i. lt-leb _ _ (b.apart x y i j)) y x j i);
+      buys_numbered = numbered_here resting_sells resting_buys lawful_sells lawful_buys _ b.taken _ _ _ _ _ _ _ _ _ _ is.0 is.1 d b.buys_numbered;
+      sells_numbered = numbered_there resting_sells resting_buys lawful_sells lawful_buys _ b.taken _ _ _ _ _ _ _ _ _ _ is.0 is.1 d b.sells_numbered;
+    }
 
-pub invariant-of-self-in-Sell : goal.invariant-of-self-in-Sell
-invariant-of-self-in-Sell c =
+pub invariant_of-self-in-Sell : goal.invariant_of-self-in-Sell
+invariant_of-self-in-Sell c =
     let b = c.args.self.now in
     let is = c.in-Some.ensures in
     let e = c.deal-in-Sell.ensures in
-    let d = e.dealt.2 in (
-      e.there,
-      (
-        e.here,
-        (
-          e.limits.0 ∙ b.buys_room,
-          (
-            e.limits.1 ∙ b.sells_room,
-            (
-              λ x y i j. leb-false _ _ (clear_kept resting_buys resting_sells lawful_buys lawful_sells _ _ _ _ _ _ _ _ _ _ d (λ x y i j. lt-leb _ _ (b.apart x y i j)) x y i j),
-              (
-                numbered_there resting_buys resting_sells lawful_buys lawful_sells _ b.taken _ _ _ _ _ _ _ _ _ _ is.0 is.1 d b.buys_numbered,
-                (numbered_here resting_buys resting_sells lawful_buys lawful_sells _ b.taken _ _ _ _ _ _ _ _ _ _ is.0 is.1 d b.sells_numbered, tt),
-              ),
-            ),
-          ),
-        ),
-      ),
-    )
+    let d = e.dealt.2 in
+    record {
+      buys_stand = e.there;
+      sells_stand = e.here;
+      buys_room = e.limits.0 ∙ b.buys_room;
+      sells_room = e.limits.1 ∙ b.sells_room;
+      apart = λ x y i j. leb-false _ _ (clear_kept resting_buys resting_sells lawful_buys lawful_sells _ _ _ _ _ _ _ _ _ _ d (λ x y i j. lt-leb _ _ (b.apart x y i j)) x y i j);
+      buys_numbered = numbered_there resting_buys resting_sells lawful_buys lawful_sells _ b.taken _ _ _ _ _ _ _ _ _ _ is.0 is.1 d b.buys_numbered;
+      sells_numbered = numbered_here resting_buys resting_sells lawful_buys lawful_sells _ b.taken _ _ _ _ _ _ _ _ _ _ is.0 is.1 d b.sells_numbered;
+    }
 
 pub returns-in-Buy : goal.returns-in-Buy
 returns-in-Buy c =
@@ -72,5 +54,5 @@ returns-in-Sell c =
     let f = fair resting_buys lawful_buys resting_sells _ _ _ _ _ _ _ _ _ _ e.2 in
     record { settled = settled _ _ _ _ _ _ (search rules); same = search rules }
 
-pub returns-in-default : goal.returns-in-default
-returns-in-default c = record { settled = settled _ _ _ _ _ _ (search rules); same = search rules }
+pub returns-in_default : goal.returns-in_default
+returns-in_default c = record { settled = settled _ _ _ _ _ _ (search rules); same = search rules }

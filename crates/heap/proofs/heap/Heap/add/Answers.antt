@@ -10,16 +10,16 @@ returns g c =
     let R = Upto r.key r.upto in
     let v = c.args.self.now.items in
     let w = c.append-at.new.items in
-    let s = c.as-mut-slice.result.now in
-    let free = c.if-is-full.ensures in
+    let s = c.as_mut_slice.result.now in
+    let free = c.if-is_full.ensures in
     let long = v.ok.0 in
     let longer = w.ok.0 in
-    let is : s ≡ v.items ++ c.args.x ∷ [] = c.as-mut-slice.ensures.value ∙ c.append-at.ensures.items in
+    let is : s ≡ v.items ++ c.args.x ∷ [] = c.as_mut_slice.ensures.value ∙ c.append-at.ensures.items in
     let at : c.append-at.result ≡ length v.items = omega arith in
-    let ws = c.sift-up.new.s in
+    let ws = c.sift_up.new.s in
     let e = refilled_is w.len ws (drop (length ws) w.items) (omega arith) in
     record {
-      items = (omega (arith, tests), added v.items s ws _ c.args.x is c.sift-up.ensures.shuffled e);
-      heaped = λ h. subst (Heaped R) (sym e) (c.sift-up.ensures.heaped (subst (Gap R s) (sym at) (appended R v.items s c.args.x is (omega arith) h), leaf_under R s c.append-at.result (omega arith)));
+      items = (omega (arith, tests), added v.items s ws _ c.args.x is c.sift_up.ensures.shuffled e);
+      heaped = λ h. subst (Heaped R) (sym e) (c.sift_up.ensures.heaped (subst (Gap R s) (sym at) (appended R v.items s c.args.x is (omega arith) h), leaf_under R s c.append-at.result (omega arith)));
       limit = refl;
     }

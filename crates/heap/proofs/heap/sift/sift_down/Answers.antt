@@ -6,14 +6,14 @@ use Rattle.heap.proofs.Sift.{Swapped, closes, down, down_over}
 use Rattle.heap.proofs.heap.sift.sift_down.Goals as goal
 
 -- the first child comes no earlier, so the gap closes
-pub returns-then-upto-at : goal.returns-then-upto-at
-returns-then-upto-at g c =
+pub returns-then-upto_at : goal.returns-then-upto_at
+returns-then-upto_at g c =
     let r = g.T.Ranked in
     let R = Upto r.key r.upto in
     let l = c.loop-child in
     let o = g.met.T.Ranked.lawful in
     let first = c.in-Some.ensures in
-    record { shuffled = l.invariant.1; heaped = λ h. closes R l.s l.at (l.invariant.2 h).0 (stays_under r.key r.upto o l.s l.at c.in-Some.child c.if-upto-at.ensures first.2) (l.invariant.2 h).1 }
+    record { shuffled = l.invariant.1; heaped = λ h. closes R l.s l.at (l.invariant.2 h).0 (stays_under r.key r.upto o l.s l.at c.in-Some.child c.if-upto_at.ensures first.2) (l.invariant.2 h).1 }
 
 -- the gap moves down with the element
 pub loop-child-preserved : goal.loop-child-preserved
@@ -26,7 +26,7 @@ loop-child-preserved g c =
     let first = c.in-Some.ensures in
     let ys = c.swap.new.self in
     let w = c.swap.ensures in
-    let pl = w.by-index in
+    let pl = w.by_index in
     let s : Swapped l.s ys l.at child = (pl.0, pl.1, pl.2) in
-    let t = turned r.key r.upto o l.s l.at child c.if-upto-at.ensures in
+    let t = turned r.key r.upto o l.s l.at child c.if-upto_at.ensures in
     (omega arith, IsPermutation-trans _ _ _ l.invariant.1 w.permutation, λ h. (down R l.s ys l.at child first.0 first.1 w.len s first.2 (l.invariant.2 h).0, down_over R l.s ys l.at child first.0 first.1 w.len s t))

@@ -6,13 +6,13 @@ use Rattle.heap.proofs.Sift.{Swapped, closes, rests_over, up, up_under}
 use Rattle.heap.proofs.heap.sift.sift_up.Goals as goal
 
 -- the parent comes no later, so the gap closes
-pub returns-then-upto-at : goal.returns-then-upto-at
-returns-then-upto-at g c =
+pub returns-then-upto_at : goal.returns-then-upto_at
+returns-then-upto_at g c =
     let r = g.T.Ranked in
     let R = Upto r.key r.upto in
     let l = c.loop-up in
     let child = c.in-Some.ensures in
-    record { shuffled = l.invariant.2; heaped = λ h. closes R l.s l.at (l.invariant.3 h).0 (l.invariant.3 h).1 (rests_over R l.s l.at c.in-Some.up child c.if-upto-at.ensures) }
+    record { shuffled = l.invariant.2; heaped = λ h. closes R l.s l.at (l.invariant.3 h).0 (l.invariant.3 h).1 (rests_over R l.s l.at c.in-Some.up child c.if-upto_at.ensures) }
 
 -- the gap moves up with the element
 pub loop-up-preserved : goal.loop-up-preserved
@@ -25,8 +25,8 @@ loop-up-preserved g c =
     let child = c.in-Some.ensures in
     let ys = c.swap.new.self in
     let w = c.swap.ensures in
-    let pl = w.by-index in
+    let pl = w.by_index in
     let s : Swapped l.s ys p l.at = (pl.0, pl.1, pl.2) in
-    let t = turned r.key r.upto o l.s p l.at c.if-upto-at.ensures in
+    let t = turned r.key r.upto o l.s p l.at c.if-upto_at.ensures in
     let trans = chain r.key r.upto o in
     (omega arith, omega arith, IsPermutation-trans _ _ _ l.invariant.2 w.permutation, λ h. (up R l.s ys p l.at child l.invariant.0 w.len s trans (l.invariant.3 h).0, up_under R l.s ys p l.at child l.invariant.0 w.len s trans t (l.invariant.3 h).0))

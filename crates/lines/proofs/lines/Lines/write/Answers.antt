@@ -8,7 +8,7 @@ pub returns : goal.returns
 returns g c =
     let p = page c.args.self.now in
     let x = c.args.line in
-    let room = c.if-not-has-room.ensures in
+    let room = c.if-not-has_room.ensures in
     let free : p.used < length p.lines = grind (arith, nat_tests) in
     let put = c.put.ensures in
     record {

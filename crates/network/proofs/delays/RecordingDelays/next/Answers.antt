@@ -11,10 +11,10 @@ returns c =
     let zero : get_or at k 0 ≡ get_or at k 0 + 0 = omega arith in
     record {
       link = λ h. record {
-        value = c.entry-at.ensures.value ∙ ap (entry ds) zero;
+        value = c.entry_at.ensures.value ∙ ap (entry ds) zero;
         after = traced_following ds at k c.following.result (omega arith) c.following.ensures;
       };
       none = λ h. absurd (omega arith);
-      within = c.entry-at.ensures.within;
+      within = c.entry_at.ensures.within;
       same = refl;
     }

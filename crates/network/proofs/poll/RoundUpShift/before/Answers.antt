@@ -8,5 +8,5 @@ returns c =
     let g = gap c.args.self.now.gap in
     let m = c.args.moment in
     subst (λ (b : ℕ). Before (poll_at g) m b)
-    (sym (c.last-multiple.ensures ∙ ap (λ d. m - m % d) (c.from.ensures ∙ c.step.ensures)))
+    (sym (c.last_multiple.ensures ∙ ap (λ d. m - m % d) (c.from.ensures ∙ c.step.ensures)))
     (poll_before g m (omega arith) c.if-moment-ge-END.false)

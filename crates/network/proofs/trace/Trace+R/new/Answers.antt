@@ -8,8 +8,8 @@ returns g c =
     let n = length c.args.slots.now in
     record {
       net =
-          c.with-delays.ensures.net
+          c.with_delays.ensures.net
           ∙ ap (λ (d : ℕ → ℕ → ℕ). unused n d (greatest c.new.result.delays.now)) c.new.ensures.start
           ∙ ap (λ (ds : List ℕ). unused n (λ _ nth. entry c.args.delays.now nth) (greatest ds)) c.new.ensures.delays;
-      idle = c.with-delays.ensures.idle;
+      idle = c.with_delays.ensures.idle;
     }

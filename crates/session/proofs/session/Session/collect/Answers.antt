@@ -16,8 +16,8 @@ put-collected-requires g c = λ due.
     let fits = buffer_fits seats (held s.state.buffer) k inside more (balanced seats (held s.state.buffer) s.few s.tallied s.sent s.pending s.trades) in
     search rules
 
-pub invariant-of-self : goal.invariant-of-self
-invariant-of-self g c =
+pub invariant_of-self : goal.invariant_of-self
+invariant_of-self g c =
     let s = c.args.self.now in
     let seats = vec_items s.state.seats in
     let k = c.args.seat in
@@ -29,8 +29,8 @@ invariant-of-self g c =
     let inside : k < length seats = search rules in
     let put : Put own k message n (held s.state.buffer) buffer = search rules in
     let before = balanced seats (held s.state.buffer) s.few s.tallied s.sent s.pending s.trades in
-    let new = c.note-collected.ensures ∙ ap (collected_with n m) c.seat-mut.ensures.value in
-    let after : Balanced (set seats k c.note-collected.new.self) buffer =
+    let new = c.note_collected.ensures ∙ ap (collected_with n m) c.seat_mut.ensures.value in
+    let after : Balanced (set seats k c.note_collected.new.self) buffer =
     subst (λ (x : Seat). Balanced (set seats k x) buffer) (sym new) (put_balanced seats (held s.state.buffer) buffer k n m message inside put before) in
     let put-ensures = c.put-collected.ensures in
     (after.few, (balanced_tallied _ _ after, (balanced_sent _ _ after, (balanced_pending _ _ after, (balanced_trades _ _ after, (put-ensures.limit ∙ s.room, (put-ensures.ranked s.ranked, (s.points, (s.counted, tt)))))))))

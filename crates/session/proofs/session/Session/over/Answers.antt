@@ -7,8 +7,8 @@ use Rattle.records.specs.Seat.{blank}
 use Rattle.session.proofs.Balance.{Balanced, balanced_new, balanced_pending, balanced_sent, balanced_tallied, balanced_trades}
 use Rattle.session.proofs.session.Session.over.Goals as goal
 
-pub invariant-of-result : goal.invariant-of-result
-invariant-of-result c =
+pub invariant_of-result : goal.invariant_of-result
+invariant_of-result c =
     let seats = vec_items c.args.state.seats in
     let buffer = held c.args.state.buffer in
     let made = c.requires.seats in

@@ -19,8 +19,8 @@ returns-in-Some-holder c =
       same = search rules;
     }
 
-pub returns-in-default-next-place : goal.returns-in-default-next-place
-returns-in-default-next-place c =
+pub returns-in_default-next_place : goal.returns-in_default-next_place
+returns-in_default-next_place c =
     let s = c.args.self.now in
     let x = c.in-Some.head in
     let first = c.in-Some.ensures in
@@ -29,8 +29,8 @@ returns-in-default-next-place c =
       same = search rules;
     }
 
-pub seat-mut-requires : goal.seat-mut-requires
-seat-mut-requires c =
+pub seat_mut-requires : goal.seat_mut-requires
+seat_mut-requires c =
     let s = c.args.self.now in
     let seats = vec_items s.state.seats in
     let buffer = held s.state.buffer in
@@ -39,26 +39,26 @@ seat-mut-requires c =
     let known = held_known seats buffer x (root_has buffer x first.item.0 first.item.1) (balanced seats buffer s.few s.tallied s.sent s.pending s.trades) in
     search rules
 
-pub count-released-requires : goal.count-released-requires
-count-released-requires c =
+pub count_released-requires : goal.count_released-requires
+count_released-requires c =
     let s = c.args.self.now in
     let seats = vec_items s.state.seats in
     let buffer = held s.state.buffer in
     let x = c.in-Some.head in
     let first = c.in-Some.ensures in
     let known = held_known seats buffer x (root_has buffer x first.item.0 first.item.1) (balanced seats buffer s.few s.tallied s.sent s.pending s.trades) in
-    subst (λ (y : Seat). y.released < most_trades) (sym c.seat-mut.ensures.value) known.1
+    subst (λ (y : Seat). y.released < most_trades) (sym c.seat_mut.ensures.value) known.1
 
-pub invariant-of-self : goal.invariant-of-self
-invariant-of-self c =
+pub invariant_of-self : goal.invariant_of-self
+invariant_of-self c =
     let s = c.args.self.now in
     let seats = vec_items s.state.seats in
     let x = c.in-Some.head in
     let k = x.seat in
-    let taken = c.take-head.ensures in
-    let buffer = held c.take-head.new.buffer in
+    let taken = c.take_head.ensures in
+    let buffer = held c.take_head.new.buffer in
     let before = balanced seats (held s.state.buffer) s.few s.tallied s.sent s.pending s.trades in
-    let new = c.count-released.ensures ∙ ap released_once c.seat-mut.ensures.value in
-    let after : Balanced (set seats k c.count-released.new.self) buffer =
+    let new = c.count_released.ensures ∙ ap released_once c.seat_mut.ensures.value in
+    let after : Balanced (set seats k c.count_released.new.self) buffer =
     subst (λ (y : Seat). Balanced (set seats k y) buffer) (sym new) (balanced_release seats (held s.state.buffer) x buffer taken.taken.all before) in
     (after.few, (balanced_tallied _ _ after, (balanced_sent _ _ after, (balanced_pending _ _ after, (balanced_trades _ _ after, (taken.limit ∙ s.room, (taken.ranked, (s.points, (s.counted, tt)))))))))

@@ -6,5 +6,5 @@ use Rattle.session.proofs.session.Session.seal.Goals as goal
 pub deal-requires : goal.deal-requires
 deal-requires g c = record {
   timely = search rules;
-  room = none_crowded (vec_items c.args.self.now.state.seats) (g.F.Network.meaning c.args.forward.now) (sym c.in-default.ensures);
+  room = none_crowded (vec_items c.args.self.now.state.seats) (g.F.Network.meaning c.args.forward.now) (sym c.in_default.ensures);
 }

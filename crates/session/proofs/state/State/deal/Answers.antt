@@ -6,8 +6,8 @@ use Rattle.session.specs.Seal.{SentIf}
 use Rattle.session.proofs.Dealing.{dealt_one, next_accepts}
 use Rattle.session.proofs.state.State.deal.Goals as goal
 
-pub deal-one-requires : goal.deal-one-requires
-deal-one-requires g c = λ here.
+pub deal_one-requires : goal.deal_one-requires
+deal_one-requires g c = λ here.
     let seats = vec_items c.args.self.now.seats in
     let k = c.loop-k.k in
     let inside : k < length seats = search rules in
@@ -17,7 +17,7 @@ deal-one-requires g c = λ here.
 pub loop-k-preserved : goal.loop-k-preserved
 loop-k-preserved g c =
     let before = g.F.Network.meaning c.loop-k.forward in
-    let after = g.F.Network.meaning c.deal-one.new.forward in
+    let after = g.F.Network.meaning c.deal_one.new.forward in
     let k = c.loop-k.k in
     dealt_one (vec_items c.args.self.now.seats) (g.F.Network.meaning c.args.forward.now) before after k c.args.at c.args.batch c.loop-k.invariant
-    (subst (λ (s : List Seat). SentIf (not (is_ended (get_or s k blank).condition)) before after k c.args.at c.args.batch) c.deref-seat-items.ensures.value c.deal-one.ensures)
+    (subst (λ (s : List Seat). SentIf (not (is_ended (get_or s k blank).condition)) before after k c.args.at c.args.batch) c.deref-seat-items.ensures.value c.deal_one.ensures)

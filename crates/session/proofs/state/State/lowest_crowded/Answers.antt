@@ -7,14 +7,14 @@ use Rattle.session.specs.Seal.{crowded}
 use Rattle.session.proofs.Dealing.{crowded_inside, lowest_found, lowest_more}
 use Rattle.session.proofs.state.State.lowest_crowded.Goals as goal
 
-pub returns-then-is-crowded : goal.returns-then-is-crowded
-returns-then-is-crowded g c =
+pub returns-then-is_crowded : goal.returns-then-is_crowded
+returns-then-is_crowded g c =
     let seats = vec_items c.args.self.now.seats in
     let net = g.F.Network.meaning c.args.forward.now in
     let k = c.loop-k.k in
     let inside : k < length seats = search rules in
     let told : true ≡ (not (is_ended (get_or seats k blank).condition) && not (has_room net k)) =
-    subst (λ (s : List Seat). true ≡ (not (is_ended (get_or s k blank).condition) && not (has_room net k))) c.deref-seat-items.ensures.value c.if-is-crowded.ensures in
+    subst (λ (s : List Seat). true ≡ (not (is_ended (get_or s k blank).condition) && not (has_room net k))) c.deref-seat-items.ensures.value c.if-is_crowded.ensures in
     sym (lowest_found (crowded seats net) k (length seats) c.loop-k.invariant (crowded_inside seats net k inside ∙ sym told) inside)
 
 pub loop-k-preserved : goal.loop-k-preserved
@@ -24,5 +24,5 @@ loop-k-preserved g c =
     let k = c.loop-k.k in
     let inside : k < length seats = search rules in
     let told : false ≡ (not (is_ended (get_or seats k blank).condition) && not (has_room net k)) =
-    subst (λ (s : List Seat). false ≡ (not (is_ended (get_or s k blank).condition) && not (has_room net k))) c.deref-seat-items.ensures.value c.if-is-crowded.ensures in
+    subst (λ (s : List Seat). false ≡ (not (is_ended (get_or s k blank).condition) && not (has_room net k))) c.deref-seat-items.ensures.value c.if-is_crowded.ensures in
     lowest_more (crowded seats net) k c.loop-k.invariant (crowded_inside seats net k inside ∙ sym told)
