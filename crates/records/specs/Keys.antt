@@ -1,6 +1,5 @@
 -- The order on delivery keys is lawful: by four numbers, one after another.
-use Rattle.std.specs.Prelude.{◌≡◌, true, false, leb}
-use Rattle.heap.specs.Keys.{lex}
+use Rattle.std.specs.Prelude.{◌≡◌, true, false}
 use Rattle.heap.specs.Order.{Order}
 use Rattle.heap.proofs.Lex.{leb_total, leb_trans, leb_antisym, lex_total, lex_trans, lex_same}
 use Rattle.records.specs.declared.trade.DeliveryKey.{DeliveryKey}

@@ -34,17 +34,10 @@ fn sell(seat: usize, price: u32, quantity: u32) -> Order {
 }
 
 // That so much of an order was filled, rested and dropped.
-fn became(
-    rt: &impl Abort,
-    booked: Booked,
-    filled: u32,
-    rested: u32,
-    dropped: u32,
-) -> Result<(), Fail> {
+fn became(rt: &impl Abort, booked: Booked, filled: u32, rested: u32, dropped: u32) {
     assert_eq!(rt; booked.filled, filled, "filled");
     assert_eq!(rt; booked.rested, rested, "rested");
     assert_eq!(rt; booked.dropped, dropped, "dropped");
-    Ok(())
 }
 
 // An empty book that has taken so many orders.
@@ -59,9 +52,9 @@ fn equal_prices_go_by_arrival(rt: HostRuntime) -> Result<(), Fail> {
     let mut book = Book::new(rt.alloc())?;
     let mut lines = [FREE; 2];
     let mut fills = Lines::new(&mut lines);
-    became(&rt, book.take_order(sell(1, 100, 5), &mut fills), 0, 5, 0)?;
-    became(&rt, book.take_order(sell(2, 100, 5), &mut fills), 0, 5, 0)?;
-    became(&rt, book.take_order(buy(3, 101, 7), &mut fills), 7, 0, 0)?;
+    became(&rt, book.take_order(sell(1, 100, 5), &mut fills), 0, 5, 0);
+    became(&rt, book.take_order(sell(2, 100, 5), &mut fills), 0, 5, 0);
+    became(&rt, book.take_order(buy(3, 101, 7), &mut fills), 7, 0, 0);
     let [first, second] = lines;
     assert_eq!(rt; first.seller.seat, 1);
     assert_eq!(rt; second.seller.seat, 2);
@@ -77,9 +70,9 @@ fn an_order_clears_three(rt: HostRuntime) -> Result<(), Fail> {
     let mut lines = [FREE; 3];
     let mut fills = Lines::new(&mut lines);
     for price in 100..103u32 {
-        became(&rt, book.take_order(buy(1, price, 5), &mut fills), 0, 5, 0)?;
+        became(&rt, book.take_order(buy(1, price, 5), &mut fills), 0, 5, 0);
     }
-    became(&rt, book.take_order(sell(2, 100, 20), &mut fills), 15, 5, 0)?;
+    became(&rt, book.take_order(sell(2, 100, 20), &mut fills), 15, 5, 0);
     assert!(rt; book.best_buy().is_none());
     assert_eq!(rt; book.best_sell().ok_or("none rests")?.quantity, 5);
     let [first, second, third] = lines;
@@ -92,11 +85,15 @@ fn a_full_fill_list_drops_what_crosses(rt: HostRuntime) -> Result<(), Fail> {
     let mut book = Book::new(rt.alloc())?;
     let mut lines = [FREE; 1];
     let mut fills = Lines::new(&mut lines);
-    became(&rt, book.take_order(sell(1, 100, 5), &mut fills), 0, 5, 0)?;
-    became(&rt, book.take_order(sell(2, 100, 5), &mut fills), 0, 5, 0)?;
-    became(&rt, book.take_order(buy(3, 100, 8), &mut fills), 5, 0, 3).note("one line")?;
-    became(&rt, book.take_order(buy(3, 100, 8), &mut fills), 0, 0, 8).note("no line")?;
-    became(&rt, book.take_order(buy(3, 99, 8), &mut fills), 0, 8, 0).note("no price crosses")
+    became(&rt, book.take_order(sell(1, 100, 5), &mut fills), 0, 5, 0);
+    became(&rt, book.take_order(sell(2, 100, 5), &mut fills), 0, 5, 0);
+    // one line
+    became(&rt, book.take_order(buy(3, 100, 8), &mut fills), 5, 0, 3);
+    // no line
+    became(&rt, book.take_order(buy(3, 100, 8), &mut fills), 0, 0, 8);
+    // no price crosses
+    became(&rt, book.take_order(buy(3, 99, 8), &mut fills), 0, 8, 0);
+    Ok(())
 }
 
 #[test]
@@ -104,16 +101,21 @@ fn a_full_side_drops(rt: HostRuntime) -> Result<(), Fail> {
     let mut book = Book::new(rt.alloc())?;
     let mut fills = Lines::new(&mut []);
     for _ in 0..256u32 {
-        became(&rt, book.take_order(buy(1, 10, 1), &mut fills), 0, 1, 0)?;
+        became(&rt, book.take_order(buy(1, 10, 1), &mut fills), 0, 1, 0);
     }
-    became(&rt, book.take_order(buy(1, 10, 1), &mut fills), 0, 0, 1)?;
-    became(&rt, book.take_order(sell(1, 11, 1), &mut fills), 0, 1, 0).note("the other side")
+    became(&rt, book.take_order(buy(1, 10, 1), &mut fills), 0, 0, 1);
+    // the other side
+    became(&rt, book.take_order(sell(1, 11, 1), &mut fills), 0, 1, 0);
+    Ok(())
 }
 
 #[test]
 fn a_book_takes_a_million_orders(rt: HostRuntime) -> Result<(), Fail> {
     let mut book = after(rt.alloc(), 999_999)?;
     let mut fills = Lines::new(&mut []);
-    became(&rt, book.take_order(buy(1, 10, 7), &mut fills), 0, 7, 0).note("the last")?;
-    became(&rt, book.take_order(buy(1, 10, 7), &mut fills), 0, 0, 7).note("one more")
+    // the last
+    became(&rt, book.take_order(buy(1, 10, 7), &mut fills), 0, 7, 0);
+    // one more
+    became(&rt, book.take_order(buy(1, 10, 7), &mut fills), 0, 0, 7);
+    Ok(())
 }
