@@ -5,8 +5,8 @@ use network::Network;
 
 // Sends a record where there is room for it.
 pub(crate) fn post<T, N: Network<T>>(net: &mut N, link: usize, at: u64, item: T)
-    requires { accepts (meaning net.old) link at ≡ true }
-    ensures { Sent (meaning net.old) (meaning net.new) link at item }
+    requires { accepts (N.Network.meaning net.old) link at ≡ true }
+    ensures { Sent (N.Network.meaning net.old) (N.Network.meaning net.new) link at item }
 {
     match net.send(link, at, item) {
         Ok(()) => {}

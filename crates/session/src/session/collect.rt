@@ -18,7 +18,7 @@ impl Session {
         at: u64,
         seat: usize,
     ) -> Result<Kind, Refusal>
-        ensures { (f : Net Batch) (c : ℕ → ℕ) (p : Page ℕ) (t : Page Line) → Collects (world self.old.state f (meaning reverse.old) c p t) at seat result (world self.new.state f (meaning reverse.new) c p t) }
+        ensures { (f : Net Batch) (c : ℕ → ℕ) (p : Page ℕ) (t : Page Line) → Collects (world self.old.state f (R.Network.meaning reverse.old) c p t) at seat result (world self.new.state f (R.Network.meaning reverse.new) c p t) }
     {
         self.state.timely(Some(seat), at)?;
         let record = self.state.seat(seat)?;

@@ -17,7 +17,7 @@ impl Session {
         at: u64,
         seat: usize,
     ) -> Result<(), Refusal>
-        ensures { (f : Net Batch) (c : ℕ → ℕ) (p : Page ℕ) (t : Page Line) → Ends (world self.old.state f (meaning reverse.old) c p t) at seat result (world self.new.state f (meaning reverse.new) c p t) }
+        ensures { (f : Net Batch) (c : ℕ → ℕ) (p : Page ℕ) (t : Page Line) → Ends (world self.old.state f (R.Network.meaning reverse.old) c p t) at seat result (world self.new.state f (R.Network.meaning reverse.new) c p t) }
     {
         self.state.timely(Some(seat), at)?;
         let condition = self.state.seat(seat)?.turn(seat, SeatCall::End)?;

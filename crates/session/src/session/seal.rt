@@ -11,7 +11,7 @@ use records::{Batch, Line, Message, Refusal};
 impl Session {
     // Sends the open batch to every seat that has not ended, and opens an empty one. The number of the batch sent.
     pub fn seal<F: Network<Batch>>(&mut self, forward: &mut F, at: u64) -> Result<u32, Refusal>
-        ensures { (b : Net Message) (c : ℕ → ℕ) (p : Page ℕ) (t : Page Line) → Seals (world self.old.state (meaning forward.old) b c p t) at result (world self.new.state (meaning forward.new) b c p t) }
+        ensures { (b : Net Message) (c : ℕ → ℕ) (p : Page ℕ) (t : Page Line) → Seals (world self.old.state (F.Network.meaning forward.old) b c p t) at result (world self.new.state (F.Network.meaning forward.new) b c p t) }
     {
         self.state.timely(None, at)?;
         let market = self.state.market;

@@ -11,8 +11,8 @@ use records::{Batch, Seat};
 
 // Sends a batch to one seat, unless it has ended.
 fn deal_one<F: Network<Batch>>(forward: &mut F, link: usize, seat: &Seat, at: u64, batch: Batch)
-    requires { not (is_ended seat.now.condition) ≡ true → accepts (meaning forward.old) link at ≡ true }
-    ensures { SentIf (not (is_ended seat.now.condition)) (meaning forward.old) (meaning forward.new) link at batch }
+    requires { not (is_ended seat.now.condition) ≡ true → accepts (F.Network.meaning forward.old) link at ≡ true }
+    ensures { SentIf (not (is_ended seat.now.condition)) (F.Network.meaning forward.old) (F.Network.meaning forward.new) link at batch }
 {
     if !seat.ended() {
         post(forward, link, at, batch);
@@ -21,7 +21,7 @@ fn deal_one<F: Network<Batch>>(forward: &mut F, link: usize, seat: &Seat, at: u6
 
 // Whether a batch is due to a seat whose link has no room.
 fn is_crowded<F: Network<Batch>>(forward: &F, link: usize, seat: &Seat) -> bool
-    ensures { result ≡ (not (is_ended seat.now.condition) && not (has_room (meaning forward.now) link)) }
+    ensures { result ≡ (not (is_ended seat.now.condition) && not (has_room (F.Network.meaning forward.now) link)) }
 {
     !seat.ended() && !forward.room(link)
 }
@@ -29,7 +29,7 @@ fn is_crowded<F: Network<Batch>>(forward: &F, link: usize, seat: &Seat) -> bool
 impl State {
     // The lowest seat that a batch is due to and whose link has no room.
     pub fn lowest_crowded<F: Network<Batch>>(&self, forward: &F) -> Option<usize>
-        ensures { result ≡ lowest (crowded self.now.seats.items (meaning forward.now)) (length self.now.seats.items) }
+        ensures { result ≡ lowest (crowded self.now.seats.items (F.Network.meaning forward.now)) (length self.now.seats.items) }
     {
         for (k, seat) in self.seats.iter().enumerate() {
             if is_crowded(forward, k, seat) {
@@ -42,8 +42,8 @@ impl State {
     // Sends a batch to every seat that has not ended.
     pub fn deal<F: Network<Batch>>(&self, forward: &mut F, at: u64, batch: Batch)
         requires timely { at < limit }
-        requires room { (k : ℕ) → crowded self.now.seats.items (meaning forward.old) k ≡ false }
-        ensures { Dealt (due self.now.seats.items) (meaning forward.old) (meaning forward.new) at batch }
+        requires room { (k : ℕ) → crowded self.now.seats.items (F.Network.meaning forward.old) k ≡ false }
+        ensures { Dealt (due self.now.seats.items) (F.Network.meaning forward.old) (F.Network.meaning forward.new) at batch }
     {
         for (k, seat) in self.seats.iter().enumerate() {
             deal_one(forward, k, seat, at, batch);

@@ -4,4 +4,4 @@ use Rattle.session.proofs.layout.calls.seated.Given as goal
 
 -- so many new seats so far, and room for the others
 abbrev pub invariant-loop-made : goal.invariant-loop-made
-invariant-loop-made l = (vec_items l.seats ≡ replicate l.«-made» blank) × (l.count ≤ vec_capacity l.seats)
+invariant-loop-made l = (vec_items l.seats ≡ replicate l._made blank) × (l.count ≤ vec_capacity l.seats)

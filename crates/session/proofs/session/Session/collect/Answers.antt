@@ -33,4 +33,14 @@ invariant_of-self g c =
     let after : Balanced (set seats k c.note_collected.new.self) buffer =
     subst (λ (x : Seat). Balanced (set seats k x) buffer) (sym new) (put_balanced seats (held s.state.buffer) buffer k n m message inside put before) in
     let put-ensures = c.put-collected.ensures in
-    (after.few, (balanced_tallied _ _ after, (balanced_sent _ _ after, (balanced_pending _ _ after, (balanced_trades _ _ after, (put-ensures.limit ∙ s.room, (put-ensures.ranked s.ranked, (s.points, (s.counted, tt)))))))))
+    record {
+      few = after.few;
+      tallied = balanced_tallied _ _ after;
+      sent = balanced_sent _ _ after;
+      pending = balanced_pending _ _ after;
+      trades = balanced_trades _ _ after;
+      room = put-ensures.limit ∙ s.room;
+      ranked = put-ensures.ranked s.ranked;
+      points = s.points;
+      counted = s.counted;
+    }

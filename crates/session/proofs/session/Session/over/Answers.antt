@@ -15,4 +15,14 @@ invariant_of-result c =
     let none = c.requires.buffer.0 in
     let new : Balanced (replicate made.0 blank) buffer = subst (λ (xs : List Trade). Balanced (replicate made.0 blank) xs) (sym (nil_from_length buffer none)) (balanced_new made.0 made.1) in
     let b : Balanced seats buffer = subst (λ (xs : List Seat). Balanced xs buffer) (sym made.2) new in
-    (b.few, (balanced_tallied seats buffer b, (balanced_sent seats buffer b, (balanced_pending seats buffer b, (balanced_trades seats buffer b, (c.requires.buffer.1, ((λ k d lt. absurd (omega arith)), (search rules, (search rules, tt)))))))))
+    record {
+      few = b.few;
+      tallied = balanced_tallied seats buffer b;
+      sent = balanced_sent seats buffer b;
+      pending = balanced_pending seats buffer b;
+      trades = balanced_trades seats buffer b;
+      room = c.requires.buffer.1;
+      ranked = λ k d lt. absurd (omega arith);
+      points = search rules;
+      counted = search rules;
+    }

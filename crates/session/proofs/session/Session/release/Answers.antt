@@ -61,4 +61,14 @@ invariant_of-self c =
     let new = c.count_released.ensures ∙ ap released_once c.seat_mut.ensures.value in
     let after : Balanced (set seats k c.count_released.new.self) buffer =
     subst (λ (y : Seat). Balanced (set seats k y) buffer) (sym new) (balanced_release seats (held s.state.buffer) x buffer taken.taken.all before) in
-    (after.few, (balanced_tallied _ _ after, (balanced_sent _ _ after, (balanced_pending _ _ after, (balanced_trades _ _ after, (taken.limit ∙ s.room, (taken.ranked, (s.points, (s.counted, tt)))))))))
+    record {
+      few = after.few;
+      tallied = balanced_tallied _ _ after;
+      sent = balanced_sent _ _ after;
+      pending = balanced_pending _ _ after;
+      trades = balanced_trades _ _ after;
+      room = taken.limit ∙ s.room;
+      ranked = taken.ranked;
+      points = s.points;
+      counted = s.counted;
+    }
