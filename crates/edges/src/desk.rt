@@ -10,7 +10,8 @@ use order::{Call, Outcome, act};
 use records::{Batch, Line, Message, Refusal};
 use session::{Layout, Session};
 use std::alloc::Global;
-use std::test::*;
+use std::process::Abort;
+use std::test::Fail;
 
 #[derive(Drop)]
 pub struct Desk<'a> {
@@ -25,11 +26,11 @@ pub struct Desk<'a> {
 }
 
 // A session with horizon 20, window 50 and so many seats.
-fn opened(heap: Global, seats: usize) -> Result<Session, Fail> {
+fn opened(rt: &impl Abort, heap: Global, seats: usize) -> Result<Session, Fail> {
     let mut layout = Layout::new(heap)?;
-    assert!(layout.set_times(20, 50).is_ok());
+    assert!(rt; layout.set_times(20, 50).is_ok());
     for _ in 0..seats {
-        assert!(layout.add_seat().is_ok());
+        assert!(rt; layout.add_seat().is_ok());
     }
     Ok(layout.open())
 }
@@ -37,6 +38,7 @@ fn opened(heap: Global, seats: usize) -> Result<Session, Fail> {
 impl<'a> Desk<'a> {
     // Over links that take 5, and lists without lines.
     pub fn new(
+        rt: &impl Abort,
         heap: Global,
         seats: usize,
         forward: &'a mut [Slot<Batch>],
@@ -45,7 +47,7 @@ impl<'a> Desk<'a> {
         tape: &'a mut [Line],
     ) -> Result<Desk<'a>, Fail> {
         Ok(Desk {
-            session: opened(heap, seats)?,
+            session: opened(rt, heap, seats)?,
             forward: Fixed::new(forward, [5; LINKS]),
             reverse: Fixed::new(reverse, [5; LINKS]),
             clock: OffsetClock::new([7; SEATS]),
@@ -130,22 +132,28 @@ impl<'a> Desk<'a> {
     }
 
     // Takes steps in turn: each is to be answered so.
-    pub fn expect(&mut self, rows: &[(Step, Answer)]) -> Result<(), Fail> {
+    pub fn expect(&mut self, rt: &impl Abort, rows: &[(Step, Answer)]) -> Result<(), Fail> {
         for (i, row) in rows.iter().enumerate() {
             let (step, wanted) = *row;
-            assert_eq!(self.make(step), wanted, "row {i}");
+            assert_eq!(rt; self.make(step), wanted, "row {i}");
         }
         Ok(())
     }
 }
 
 // Takes steps in turn at a new desk, over links that hold two batches and 16 messages.
-pub fn run(heap: Global, seats: usize, rows: &[(Step, Answer)]) -> Result<(), Fail> {
+pub fn run(
+    rt: &impl Abort,
+    heap: Global,
+    seats: usize,
+    rows: &[(Step, Answer)],
+) -> Result<(), Fail> {
     let mut forward = [NO_BATCH; 32];
     let mut reverse = [NO_MESSAGE; 256];
     let mut points = [0; 128];
     let mut tape = [NO_LINE; 32];
     let mut desk = Desk::new(
+        rt,
         heap,
         seats,
         &mut forward,
@@ -153,7 +161,7 @@ pub fn run(heap: Global, seats: usize, rows: &[(Step, Answer)]) -> Result<(), Fa
         &mut points,
         &mut tape,
     )?;
-    desk.expect(rows)
+    desk.expect(rt, rows)
 }
 
 // Releases a trade onto a tape, and rejects it.

@@ -6,7 +6,8 @@ use crate::lists::{NO_BATCH, NO_LINE, NO_MESSAGE};
 use crate::step::Step::*;
 use session::Layout;
 use std::alloc::Global;
-use std::test::*;
+use std::process::Abort;
+use std::test::Fail;
 
 // The flaw's number, or 0.
 fn setting(layout: &mut Layout, horizon: u64, window: u64) -> u32 {
@@ -46,26 +47,35 @@ fn times_have_limits(rt: HostRuntime) -> Result<(), Fail> {
 }
 
 // That the session of a layout keeps just these times.
-fn keeps(heap: Global, layout: Layout, horizon: u64, window: u64) -> Result<(), Fail> {
+fn keeps(
+    rt: &impl Abort,
+    heap: Global,
+    layout: Layout,
+    horizon: u64,
+    window: u64,
+) -> Result<(), Fail> {
     let mut forward = [NO_BATCH; 32];
     let mut points = [0; 2];
-    let mut desk = Desk::new(heap, 0, &mut forward, &mut [], &mut points, &mut [])?;
+    let mut desk = Desk::new(rt, heap, 0, &mut forward, &mut [], &mut points, &mut [])?;
     desk.session = layout.open();
     let first = window.saturating_add(5);
     let second = first.saturating_add(horizon);
-    desk.expect(&[
-        (Point(0), Number(1)),
-        (Seal(0), Number(1)),
-        (Point(0), Number(2)),
-        (Seal(window.saturating_sub(1)), Refused(23)),
-        (Seal(window), Number(2)),
-        (Deliver(first, 0), Given(1, 1, 1)),
-        (
-            Deliver(second.saturating_sub(1), 0),
-            RefusedWith(31, Some(0), Neither, 1),
-        ),
-        (Deliver(second, 0), Given(2, 2, 1)),
-    ])
+    desk.expect(
+        rt,
+        &[
+            (Point(0), Number(1)),
+            (Seal(0), Number(1)),
+            (Point(0), Number(2)),
+            (Seal(window.saturating_sub(1)), Refused(23)),
+            (Seal(window), Number(2)),
+            (Deliver(first, 0), Given(1, 1, 1)),
+            (
+                Deliver(second.saturating_sub(1), 0),
+                RefusedWith(31, Some(0), Neither, 1),
+            ),
+            (Deliver(second, 0), Given(2, 2, 1)),
+        ],
+    )
 }
 
 #[test]
@@ -73,46 +83,49 @@ fn times_are_kept(rt: HostRuntime) -> Result<(), Fail> {
     let heap = rt.alloc();
     let mut layout = Layout::new(heap)?;
     assert!(rt; layout.add_seat().is_ok());
-    keeps(heap, layout, 1, 2).note("as laid out first")?;
+    // as laid out first
+    keeps(&rt, heap, layout, 1, 2)?;
     let mut layout = Layout::new(heap)?;
     assert!(rt; layout.add_seat().is_ok());
     assert_eq!(rt; setting(&mut layout, 1 << 32, 1 << 33), 0);
-    keeps(heap, layout, 1 << 32, 1 << 33).note("the longest")?;
+    // the longest
+    keeps(&rt, heap, layout, 1 << 32, 1 << 33)?;
     let mut layout = Layout::new(heap)?;
     assert!(rt; layout.add_seat().is_ok());
     assert_eq!(rt; setting(&mut layout, 20, 21), 0);
     assert_eq!(rt; setting(&mut layout, 0, 60), 1);
     assert_eq!(rt; setting(&mut layout, 30, 30), 2);
-    keeps(heap, layout, 20, 21).note("refused settings change nothing")
+    // refused settings change nothing
+    keeps(&rt, heap, layout, 20, 21)
 }
 
 // That a session has just so many seats.
-fn has(heap: Global, layout: Layout, seats: usize) -> Result<(), Fail> {
+fn has(rt: &impl Abort, heap: Global, layout: Layout, seats: usize) -> Result<(), Fail> {
     let mut reverse = [NO_MESSAGE; 16];
     let mut points = [0; 1];
     let mut tape = [NO_LINE; 1];
-    let mut desk = Desk::new(heap, 0, &mut [], &mut reverse, &mut points, &mut tape)?;
+    let mut desk = Desk::new(rt, heap, 0, &mut [], &mut reverse, &mut points, &mut tape)?;
     desk.session = layout.open();
     for seat in 0..seats {
-        desk.expect(&[(Beat(0, seat), Sent)])?;
+        desk.expect(rt, &[(Beat(0, seat), Sent)])?;
     }
-    desk.expect(&[(Beat(0, seats), RefusedAt(11, seats))])
+    desk.expect(rt, &[(Beat(0, seats), RefusedAt(11, seats))])
 }
 
 #[test]
 fn sixteen_seats_at_most(rt: HostRuntime) -> Result<(), Fail> {
     let heap = rt.alloc();
-    has(heap, Layout::new(heap)?, 0)?;
+    has(&rt, heap, Layout::new(heap)?, 0)?;
     let mut layout = Layout::new(heap)?;
     assert_eq!(rt; adding(&mut layout), Ok(0));
-    has(heap, layout, 1)?;
+    has(&rt, heap, layout, 1)?;
     let mut layout = Layout::new(heap)?;
     for seat in 0..16usize {
         assert_eq!(rt; adding(&mut layout), Ok(seat));
     }
     assert_eq!(rt; adding(&mut layout), Err(3));
     assert_eq!(rt; adding(&mut layout), Err(3));
-    has(heap, layout, 16)
+    has(&rt, heap, layout, 16)
 }
 
 // The new seat's number, or the flaw's.

@@ -3,11 +3,12 @@ use crate::answer::Answer::*;
 use crate::answer::Way::*;
 use crate::desk::{Desk, run};
 use crate::step::Step::*;
-use std::test::*;
+use std::test::Fail;
 
 #[test]
 fn a_batch_takes_64_points(rt: HostRuntime) -> Result<(), Fail> {
     run(
+        &rt,
         rt.alloc(),
         0,
         &[
@@ -26,21 +27,25 @@ fn a_batch_takes_64_points(rt: HostRuntime) -> Result<(), Fail> {
 #[test]
 fn a_session_takes_65_536_points(rt: HostRuntime) -> Result<(), Fail> {
     let mut points = [0; 65_537];
-    let mut desk = Desk::new(rt.alloc(), 0, &mut [], &mut [], &mut points, &mut [])?;
+    let mut desk = Desk::new(&rt, rt.alloc(), 0, &mut [], &mut [], &mut points, &mut [])?;
     for batch in 0..1023u64 {
         let _ = desk.make(Points(batch * 50, 64));
         let _ = desk.make(Seal(batch * 50));
     }
-    desk.expect(&[
-        (Points(60_000, 64), Number(65_536)),
-        (Seal(60_000), Number(1024)),
-        (Point(60_000), Refused(21)),
-    ])
+    desk.expect(
+        &rt,
+        &[
+            (Points(60_000, 64), Number(65_536)),
+            (Seal(60_000), Number(1024)),
+            (Point(60_000), Refused(21)),
+        ],
+    )
 }
 
 #[test]
 fn seals_are_a_window_apart(rt: HostRuntime) -> Result<(), Fail> {
     run(
+        &rt,
         rt.alloc(),
         3,
         &[
@@ -72,6 +77,7 @@ fn seals_are_a_window_apart(rt: HostRuntime) -> Result<(), Fail> {
 #[test]
 fn deliveries_are_a_horizon_apart(rt: HostRuntime) -> Result<(), Fail> {
     run(
+        &rt,
         rt.alloc(),
         2,
         &[

@@ -4,13 +4,14 @@ use crate::answer::Way::*;
 use crate::desk::run;
 use crate::step::Step::*;
 use network::END;
-use std::test::*;
+use std::test::Fail;
 
 const NOWHERE: usize = usize::MAX;
 
 #[test]
 fn moments_never_go_back(rt: HostRuntime) -> Result<(), Fail> {
     run(
+        &rt,
         rt.alloc(),
         2,
         &[
@@ -49,6 +50,7 @@ fn moments_never_go_back(rt: HostRuntime) -> Result<(), Fail> {
 fn the_last_moment_is_below_the_end(rt: HostRuntime) -> Result<(), Fail> {
     assert_eq!(rt; END, 281_474_976_710_656);
     run(
+        &rt,
         rt.alloc(),
         1,
         &[
@@ -75,6 +77,7 @@ fn the_last_moment_is_below_the_end(rt: HostRuntime) -> Result<(), Fail> {
 #[test]
 fn seats_are_there_until_they_end(rt: HostRuntime) -> Result<(), Fail> {
     run(
+        &rt,
         rt.alloc(),
         2,
         &[

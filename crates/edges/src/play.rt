@@ -14,11 +14,12 @@ use records::{Line, Offer};
 use session::Layout;
 use std::alloc::Global;
 use std::process::Abort;
-use std::test::*;
+use std::test::Fail;
 
 #[test]
 fn a_rejected_ticket_drops_all(rt: HostRuntime) -> Result<(), Fail> {
     run(
+        &rt,
         rt.alloc(),
         1,
         &[

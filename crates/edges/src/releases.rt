@@ -9,11 +9,12 @@ use lines::Lines;
 use records::Line;
 use std::alloc::Global;
 use std::process::Abort;
-use std::test::*;
+use std::test::Fail;
 
 #[test]
 fn a_watermark_must_be_above(rt: HostRuntime) -> Result<(), Fail> {
     run(
+        &rt,
         rt.alloc(),
         2,
         &[
@@ -56,6 +57,7 @@ fn a_watermark_must_be_above(rt: HostRuntime) -> Result<(), Fail> {
 #[test]
 fn equal_tags_go_by_seat_and_serial(rt: HostRuntime) -> Result<(), Fail> {
     run(
+        &rt,
         rt.alloc(),
         2,
         &[
@@ -90,26 +92,29 @@ fn release_two(rt: &impl Abort, heap: Global, tape: &mut [Line]) -> Result<(), F
     let mut forward = [NO_BATCH; 32];
     let mut reverse = [NO_MESSAGE; 64];
     let mut points = [0; 1];
-    let mut desk = Desk::new(heap, 2, &mut forward, &mut reverse, &mut points, tape)?;
-    desk.expect(&[
-        (Point(0), Number(1)),
-        (Seal(0), Number(1)),
-        (Deliver(10, 0), Given(1, 1, 1)),
-        (Deliver(10, 1), Given(1, 1, 1)),
-        (Offer(12, 0, 1, 70, 8), Number(1)),
-        (Offer(13, 0, 1, 60, 9), Number(2)),
-        (Beat(13, 1), Sent),
-        (End(14, 1), Sent),
-        (Collect(18, 0), TookTrade),
-        (Collect(18, 0), TookTrade),
-        (Collect(18, 1), TookBeat),
-        (Release, Released(1, 0, 1)),
-        // What holds the next one up is told before the full tape.
-        (Release, RefusedWith(61, Some(1), Neither, 1)),
-        (Collect(19, 1), TookEnd),
-        (Release, Refused(62)),
-        (Release, Refused(62)),
-    ])?;
+    let mut desk = Desk::new(rt, heap, 2, &mut forward, &mut reverse, &mut points, tape)?;
+    desk.expect(
+        rt,
+        &[
+            (Point(0), Number(1)),
+            (Seal(0), Number(1)),
+            (Deliver(10, 0), Given(1, 1, 1)),
+            (Deliver(10, 1), Given(1, 1, 1)),
+            (Offer(12, 0, 1, 70, 8), Number(1)),
+            (Offer(13, 0, 1, 60, 9), Number(2)),
+            (Beat(13, 1), Sent),
+            (End(14, 1), Sent),
+            (Collect(18, 0), TookTrade),
+            (Collect(18, 0), TookTrade),
+            (Collect(18, 1), TookBeat),
+            (Release, Released(1, 0, 1)),
+            // What holds the next one up is told before the full tape.
+            (Release, RefusedWith(61, Some(1), Neither, 1)),
+            (Collect(19, 1), TookEnd),
+            (Release, Refused(62)),
+            (Release, Refused(62)),
+        ],
+    )?;
     let mut more = [NO_LINE; 2];
     let answer = reject(&mut desk.session, &mut Lines::new(&mut more));
     assert_eq!(rt;
@@ -117,7 +122,7 @@ fn release_two(rt: &impl Abort, heap: Global, tape: &mut [Line]) -> Result<(), F
         Released(1, 0, 2),
         "the next tape's first"
     );
-    desk.expect(&[(Release, Refused(60))])
+    desk.expect(rt, &[(Release, Refused(60))])
 }
 
 #[test]

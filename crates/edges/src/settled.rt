@@ -2,12 +2,13 @@
 use crate::answer::Answer::*;
 use crate::desk::run;
 use crate::step::Step::*;
-use std::test::*;
+use std::test::Fail;
 
 #[test]
 fn ends_are_collected_and_nothing_waits(rt: HostRuntime) -> Result<(), Fail> {
-    run(rt.alloc(), 0, &[(Settled, Is(true))])?;
+    run(&rt, rt.alloc(), 0, &[(Settled, Is(true))])?;
     run(
+        &rt,
         rt.alloc(),
         2,
         &[

@@ -4,11 +4,12 @@ use crate::answer::Answer::*;
 use crate::answer::Way::*;
 use crate::desk::run;
 use crate::step::Step::*;
-use std::test::*;
+use std::test::Fail;
 
 #[test]
 fn a_trade_of_another_seat_is_stray(rt: HostRuntime) -> Result<(), Fail> {
     run(
+        &rt,
         rt.alloc(),
         2,
         &[
@@ -33,6 +34,7 @@ fn a_trade_of_another_seat_is_stray(rt: HostRuntime) -> Result<(), Fail> {
 #[test]
 fn only_the_next_serial_is_not_stray(rt: HostRuntime) -> Result<(), Fail> {
     run(
+        &rt,
         rt.alloc(),
         2,
         &[
@@ -71,6 +73,7 @@ fn only_the_next_serial_is_not_stray(rt: HostRuntime) -> Result<(), Fail> {
 #[test]
 fn a_beat_after_an_end_takes_it_back(rt: HostRuntime) -> Result<(), Fail> {
     run(
+        &rt,
         rt.alloc(),
         2,
         &[

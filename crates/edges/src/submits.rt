@@ -5,11 +5,12 @@ use crate::desk::{Desk, reject, run};
 use crate::lists::{NO_BATCH, NO_LINE, NO_MESSAGE};
 use crate::step::Step::*;
 use lines::Lines;
-use std::test::*;
+use std::test::Fail;
 
 #[test]
 fn offers_have_limits(rt: HostRuntime) -> Result<(), Fail> {
     run(
+        &rt,
         rt.alloc(),
         1,
         &[
@@ -47,6 +48,7 @@ fn offers_have_limits(rt: HostRuntime) -> Result<(), Fail> {
 #[test]
 fn sixteen_trades_are_pending_at_most(rt: HostRuntime) -> Result<(), Fail> {
     run(
+        &rt,
         rt.alloc(),
         2,
         &[
@@ -81,6 +83,7 @@ fn sixteen_trades_are_pending_at_most(rt: HostRuntime) -> Result<(), Fail> {
 #[test]
 fn a_link_fills_up(rt: HostRuntime) -> Result<(), Fail> {
     run(
+        &rt,
         rt.alloc(),
         2,
         &[
@@ -122,6 +125,7 @@ fn a_seat_has_a_million_trades(rt: HostRuntime) -> Result<(), Fail> {
     let mut reverse = [NO_MESSAGE; 512];
     let mut points = [0; 1];
     let mut desk = Desk::new(
+        &rt,
         rt.alloc(),
         1,
         &mut forward,
@@ -134,8 +138,11 @@ fn a_seat_has_a_million_trades(rt: HostRuntime) -> Result<(), Fail> {
     let _ = desk.make(Deliver(5, 0));
     trade(&mut desk, 999_984);
     // Sixteen are pending too, which is told later.
-    desk.expect(&[
-        (Submits(6_000_000, 0, 16), Number(1_000_000)),
-        (Submit(6_000_000, 0), RefusedAt(43, 0)),
-    ])
+    desk.expect(
+        &rt,
+        &[
+            (Submits(6_000_000, 0, 16), Number(1_000_000)),
+            (Submit(6_000_000, 0), RefusedAt(43, 0)),
+        ],
+    )
 }
