@@ -1,7 +1,7 @@
 -- The first order of a side: a price crosses it or none.
 use Rattle.std.proofs.Common.{◌≡◌, ℕ, ◌<◌, Bool, true, false, List, [], ◌∷◌, length, get_or, sym, refl, ap, ◌∙◌, subst, ⊎_elim, arith}
 use Rattle.std.specs.List.Sorted.{IsPermutation}
-use Rattle.std.specs.List.{AllByRecursion, ContainsAt as Has}
+use Rattle.std.specs.List.{AllByRecursion, ContainsAt}
 use Rattle.std.proofs.ByRecursion.{All-weaker, has_get_or}
 use Rattle.std.proofs.lemmas.List.Sorted.{IsPermutation-sym}
 use Rattle.std.proofs.lemmas.Bool.{both_ways, cases_Bool, cond-false, cond-true}
@@ -46,5 +46,5 @@ module _ {X : Type 0} (k : Kind X) (laws : Lawful k) (p : ℕ) where
       (cases_Bool (k.meets p (k.resting x).price))
 
 -- the element at the root is a member, whatever default it is read at
-pub root_has : {X : Type 0} (xs : List X) (x y : X) → 0 < length xs → x ≡ get_or xs 0 x → y ≡ x → Has xs y
-root_has {X} xs x y some at is = subst (Has xs) (sym at ∙ sym is) (has_get_or xs 0 x some)
+pub root_has : {X : Type 0} (xs : List X) (x y : X) → 0 < length xs → x ≡ get_or xs 0 x → y ≡ x → ContainsAt xs y
+root_has {X} xs x y some at is = subst (ContainsAt xs) (sym at ∙ sym is) (has_get_or xs 0 x some)

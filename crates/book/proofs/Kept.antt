@@ -1,6 +1,6 @@
 -- What taking an order keeps: no order crosses one of the other side, and no two of a side have one arrival number.
 use Rattle.std.proofs.Common.{◌≡◌, ℕ, ◌+◌, ◌-◌, ◌≤◌, Bool, true, false, cond, not, eqb, ltb, ◌⊎◌, List, [], ◌∷◌, ◌++◌, length, count_by, sym, ap, ◌∙◌, subst, inl, inr, ⊎_elim, arith}
-use Rattle.std.specs.List.{AllByRecursion, ContainsAt as Has}
+use Rattle.std.specs.List.{AllByRecursion, ContainsAt}
 use Rattle.std.proofs.ByRecursion.{all-has, has_shuffled}
 use Rattle.std.proofs.lemmas.List.Sorted.{IsPermutation-sym, sum_by-IsPermutation}
 use Rattle.std.proofs.lemmas.List.Sums.{sum_by-append, sum_by-cons}
@@ -36,17 +36,17 @@ module _ {X : Type 0} (k : Kind X) (P : X → Type 0) (any : (x : X) (q : ℕ) �
       (every_append P (remains k o.quantity m.met) m.beyond (remains_keep o.quantity m.met parts.0) parts.1)
 
 -- whoever stands on an order's own side after stood there before, or is what rests of the order
-rested_has : {Y : Type 0} (k : Kind Y) (o : Order) (arrival left : ℕ) (stays : Bool) (own own' : List Y) (rested : ℕ) → Rested k o arrival left stays own own' rested → (y : Y) → Has own' y → ((stays ≡ true) × (k.quoted (at_rest o left arrival) ≡ y)) ⊎ Has own y
+rested_has : {Y : Type 0} (k : Kind Y) (o : Order) (arrival left : ℕ) (stays : Bool) (own own' : List Y) (rested : ℕ) → Rested k o arrival left stays own own' rested → (y : Y) → ContainsAt own' y → ((stays ≡ true) × (k.quoted (at_rest o left arrival) ≡ y)) ⊎ ContainsAt own y
 rested_has {Y} k o arrival left stays own own' rested s y m =
     let new = k.quoted (at_rest o left arrival) in
     ⊎_elim
     (λ e. ⊎_elim (λ i. inl (e, i)) (λ i. inr i) (has_cons new own y (has_shuffled own' (new ∷ own) y (IsPermutation-sym (new ∷ own) own' (when_true _ _ e s.side)) m)))
-    (λ e. inr (subst (λ (l : List Y). Has l y) (when_false _ _ e s.side) m))
+    (λ e. inr (subst (λ (l : List Y). ContainsAt l y) (when_false _ _ e s.side) m))
     (cases_Bool stays)
 
 -- no order of the one side crosses one of the other
 abbrev pub Clear : {X Y : Type 0} → Kind X → Kind Y → List X → List Y → Type 0
-Clear {X} {Y} there here xs ys = (x : X) (y : Y) → Has xs x → Has ys y → Misses there (here.resting y).price x
+Clear {X} {Y} there here xs ys = (x : X) (y : Y) → ContainsAt xs x → ContainsAt ys y → Misses there (here.resting y).price x
 
 module _ {X Y : Type 0} (there : Kind X) (here : Kind Y) (laws : Lawful there) (laws' : Lawful here) where
   -- the invariant of the two sides, once for an incoming buy and an incoming sell

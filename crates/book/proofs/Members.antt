@@ -1,7 +1,7 @@
 -- Members of lists, and what holds of each, where the shelf has it in another form.
 use Rattle.std.proofs.Common.{◌≡◌, ◌⊎◌, List, [], ◌∷◌, ◌++◌, sym, refl, subst, inl, inr, ⊎_elim}
 use Rattle.std.specs.List.Sorted.{IsPermutation}
-use Rattle.std.specs.List.{AllByRecursion, ContainsAt as Has}
+use Rattle.std.specs.List.{AllByRecursion, ContainsAt}
 use Rattle.std.proofs.ByRecursion.{All-append, all-has, all_has_itself, All-weaker, has_append_left, has_append_right, has_shuffled}
 use Rattle.std.proofs.lemmas.List.Sorted.{IsPermutation-cons, IsPermutation-sym}
 use Rattle.book.specs.TakeOrder.{Same}
@@ -18,22 +18,22 @@ module _ {X : Type 0} where
   every_parts P (x ∷ xs) ys h = let r = every_parts P xs ys h.1 in ((h.0, r.0), r.1)
 
   -- what holds of each member holds of each element
-  pub every_from_has : (P : X → Type 0) (xs : List X) → ((x : X) → Has xs x → P x) → AllByRecursion P xs
-  every_from_has P xs h = All-weaker (Has xs) P h xs (all_has_itself xs)
+  pub every_from_has : (P : X → Type 0) (xs : List X) → ((x : X) → ContainsAt xs x → P x) → AllByRecursion P xs
+  every_from_has P xs h = All-weaker (ContainsAt xs) P h xs (all_has_itself xs)
 
   -- a member of two lists in a row is one of either: an order of a side was met or lies beyond
-  pub has_either : (xs ys : List X) (x : X) → Has (xs ++ ys) x → Has xs x ⊎ Has ys x
+  pub has_either : (xs ys : List X) (x : X) → ContainsAt (xs ++ ys) x → ContainsAt xs x ⊎ ContainsAt ys x
   has_either xs ys x h =
-      let P : X → Type 0 = λ z. Has xs z ⊎ Has ys z in
+      let P : X → Type 0 = λ z. ContainsAt xs z ⊎ ContainsAt ys z in
       all-has P (xs ++ ys) x (All-append P xs ys (every_from_has P xs (λ _ m. inl m)) (every_from_has P ys (λ _ m. inr m))) h
 
   -- a member is the first element or one of the others
-  pub has_cons : (x : X) (xs : List X) (z : X) → Has (x ∷ xs) z → (x ≡ z) ⊎ Has xs z
-  has_cons x xs z h = let P : X → Type 0 = λ w. (x ≡ w) ⊎ Has xs w in all-has P (x ∷ xs) z (inl refl, every_from_has P xs (λ _ m. inr m)) h
+  pub has_cons : (x : X) (xs : List X) (z : X) → ContainsAt (x ∷ xs) z → (x ≡ z) ⊎ ContainsAt xs z
+  has_cons x xs z h = let P : X → Type 0 = λ w. (x ≡ w) ⊎ ContainsAt xs w in all-has P (x ∷ xs) z (inl refl, every_from_has P xs (λ _ m. inr m)) h
 
   -- equal lists have the same members
   pub same_refl : (xs ys : List X) → xs ≡ ys → Same xs ys
-  same_refl xs ys e = (λ z m. subst (λ (l : List X). Has l z) e m, λ z m. subst (λ (l : List X). Has l z) (sym e) m)
+  same_refl xs ys e = (λ z m. subst (λ (l : List X). ContainsAt l z) e m, λ z m. subst (λ (l : List X). ContainsAt l z) (sym e) m)
 
   -- two lists with the elements of one have the same members
   pub same_shuffled : (xs ys zs : List X) → IsPermutation xs ys → IsPermutation xs zs → Same ys zs
@@ -43,6 +43,6 @@ module _ {X : Type 0} where
   )
 
   -- after one list, two with the same members: what rests of those met, and the same orders beyond
-  pub fewer_after : (xs ys zs us vs : List X) → Same ys zs → IsPermutation (xs ++ ys) us → IsPermutation (xs ++ zs) vs → (z : X) → Has us z → Has vs z
+  pub fewer_after : (xs ys zs us vs : List X) → Same ys zs → IsPermutation (xs ++ ys) us → IsPermutation (xs ++ zs) vs → (z : X) → ContainsAt us z → ContainsAt vs z
   fewer_after xs ys zs us vs same s t z m = has_shuffled (xs ++ zs) vs z t
       (⊎_elim (λ i. has_append_left xs zs z i) (λ i. has_append_right xs zs z (same.0 z i)) (has_either xs ys z (has_shuffled us (xs ++ ys) z (IsPermutation-sym (xs ++ ys) us s) m)))

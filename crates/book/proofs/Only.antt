@@ -1,7 +1,7 @@
 -- The rules leave no choice: two outcomes of one order are one.
 use Rattle.std.proofs.Common.{◌≡◌, ℕ, ◌-◌, ◌<◌, ◌≤◌, Bool, true, false, cond, eqb, ltb, List, [], ◌∷◌, ◌++◌, length, get_or, sym, refl, ap, ◌∙◌, subst, ⊎_elim, arith}
 use Rattle.std.specs.List.Sorted.{IsPermutation}
-use Rattle.std.specs.List.{AllByRecursion, ContainsAt as Has}
+use Rattle.std.specs.List.{AllByRecursion, ContainsAt}
 use Rattle.std.proofs.ByRecursion.{all-has, all_has_itself, has_append_right, has_shuffled}
 use Rattle.std.proofs.lemmas.List.Sorted.{sum_by-IsPermutation}
 use Rattle.std.proofs.lemmas.List.Sums.{get_or-le-sum_by, sum_by-cons}
@@ -48,7 +48,7 @@ module _ {X : Type 0} (k : Kind X) (laws : Lawful k) where
   Strict (x ∷ met) beyond = AllByRecursion (Strictly x) (met ++ beyond) × Strict met beyond
 
   -- a member counts
-  count_has : (n : ℕ) (xs : List X) (y : X) → Has xs y → (k.resting y).arrival ≡ n → 1 ≤ numbered k n xs
+  count_has : (n : ℕ) (xs : List X) (y : X) → ContainsAt xs y → (k.resting y).arrival ≡ n → 1 ≤ numbered k n xs
   count_has n xs y m e =
       let le = get_or-le-sum_by (numbered_one k n) xs m.0 y m.1 in
       let is : numbered_one k n (get_or xs m.0 y) ≡ 1 = ap (numbered_one k n) (m.2 y) ∙ ap (λ (a : ℕ). cond (eqb a n) 1 0) e ∙ one_of_itself n in
@@ -75,16 +75,16 @@ module _ {X : Type 0} (k : Kind X) (laws : Lawful k) where
   )
 
   -- whoever ranks before all of a list is not in it
-  not_itself : (x : X) (xs : List X) → AllByRecursion (Strictly x) xs → (z : X) → Has xs z → x ≡ z → ⊥
+  not_itself : (x : X) (xs : List X) → AllByRecursion (Strictly x) xs → (z : X) → ContainsAt xs z → x ≡ z → ⊥
   not_itself x xs h z m e = let s = subst (Strictly x) (sym e) (all-has (Strictly x) xs z h m) in both_ways (k.before x x) s.1 s.0
 
   -- past a first order that two sides have in common, they still have the same members
-  fewer_tails : (x y : X) (xs ys : List X) → x ≡ y → AllByRecursion (Strictly x) xs → ((z : X) → Has (x ∷ xs) z → Has (y ∷ ys) z) → (z : X) → Has xs z → Has ys z
+  fewer_tails : (x y : X) (xs ys : List X) → x ≡ y → AllByRecursion (Strictly x) xs → ((z : X) → ContainsAt (x ∷ xs) z → ContainsAt (y ∷ ys) z) → (z : X) → ContainsAt xs z → ContainsAt ys z
   fewer_tails x y xs ys e s f z m = ⊎_elim (λ i. absurd (not_itself x xs s z m (e ∙ i))) (λ i. i) (has_cons y ys z (f z (has_append_right (x ∷ []) xs z m)))
 
   -- two runs of one side that each stop only where the other does not go on are one
   module _ (C : X → Type 0) where
-    same_met : (q : ℕ) (met met' beyond beyond' : List X) → Strict met beyond → Strict met' beyond' → Same (met ++ beyond) (met' ++ beyond') → Wanted k q met → Wanted k q met' → AllByRecursion C met → AllByRecursion C met' → (0 < q - total k met → length met < length met' → (z : X) → Has beyond z → C z → ⊥) → (0 < q - total k met' → length met' < length met → (z : X) → Has beyond' z → C z → ⊥) → (met ≡ met') × Same beyond beyond'
+    same_met : (q : ℕ) (met met' beyond beyond' : List X) → Strict met beyond → Strict met' beyond' → Same (met ++ beyond) (met' ++ beyond') → Wanted k q met → Wanted k q met' → AllByRecursion C met → AllByRecursion C met' → (0 < q - total k met → length met < length met' → (z : X) → ContainsAt beyond z → C z → ⊥) → (0 < q - total k met' → length met' < length met → (z : X) → ContainsAt beyond' z → C z → ⊥) → (met ≡ met') × Same beyond beyond'
     same_met q [] [] beyond beyond' s s' same w w' c c' stop stop' = (refl, same)
     same_met q [] (y ∷ met') beyond beyond' s s' same w w' c c' stop stop' = absurd (stop (let a = w'.0 in omega arith) (omega arith) y (same.1 y (all_has_itself (y ∷ met' ++ beyond')).0) c'.0)
     same_met q (x ∷ met) [] beyond beyond' s s' same w w' c c' stop stop' = absurd (stop' (let a = w.0 in omega arith) (omega arith) x (same.0 x (all_has_itself (x ∷ met ++ beyond)).0) c.0)
@@ -105,7 +105,7 @@ module _ {X : Type 0} (k : Kind X) (laws : Lawful k) where
 
 module _ {X : Type 0} (k : Kind X) (p : ℕ) where
   -- where no order crosses, none of fewer does
-  fewer_miss : (xs ys : List X) → ((z : X) → Has xs z → Has ys z) → any_crosses k p ys ≡ false → any_crosses k p xs ≡ false
+  fewer_miss : (xs ys : List X) → ((z : X) → ContainsAt xs z → ContainsAt ys z) → any_crosses k p ys ≡ false → any_crosses k p xs ≡ false
   fewer_miss xs ys f e = none_crosses k p xs (every_from_has (Misses k p) xs (λ z m. all-has (Misses k p) ys z (each_misses k p ys e) (f z m)))
 
   -- so that the same orders cross the same prices
@@ -137,7 +137,7 @@ module _ {X Y : Type 0} (there : Kind X) (here : Kind Y) (laws : Lawful there) (
   Deal p' opposite' own' fills r = Dealt there here o given room (full p') opposite opposite' own own' fills r
 
   -- a run stops only where no other would go on
-  halts : (p' p'' : Page Fill) (opposite' : List X) (own' : List Y) (fills fills' : List Fill) (r : Booked) (met' : List X) → Written p fills p' → Written p fills' p'' → length fills' ≡ length met' → (d : Deal p' opposite' own' fills r) → 0 < o.quantity - total there d.matched.met → length d.matched.met < length met' → (z : X) → Has d.matched.beyond z → Crosses there o.price z → ⊥
+  halts : (p' p'' : Page Fill) (opposite' : List X) (own' : List Y) (fills fills' : List Fill) (r : Booked) (met' : List X) → Written p fills p' → Written p fills' p'' → length fills' ≡ length met' → (d : Deal p' opposite' own' fills r) → 0 < o.quantity - total there d.matched.met → length d.matched.met < length met' → (z : X) → ContainsAt d.matched.beyond z → Crosses there o.price z → ⊥
   halts p' p'' opposite' own' fills fills' r met' w w' long d some fewer z m c =
       let n = d.matched in
       let over = n.over in

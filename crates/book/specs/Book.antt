@@ -1,6 +1,6 @@
 -- What always holds of the two sides of a book: no buy crosses a sell, and arrival numbers tell the orders of a side apart.
 use Rattle.std.specs.Prelude.{ℕ, ◌<◌, ◌≤◌, cond, List, count_by, nat_eq, nat_lt}
-use Rattle.std.specs.List.{ContainsAt as Has}
+use Rattle.std.specs.List.{ContainsAt}
 use Rattle.book.specs.declared.quote.Buy.{Buy}
 use Rattle.book.specs.declared.quote.Sell.{Sell}
 use Rattle.book.specs.Quote.{Kind}
@@ -11,7 +11,7 @@ room = 256
 
 -- every buy is below every sell, and so the best buy below the best sell
 abbrev pub Apart : List Buy → List Sell → Type 0
-Apart bs ss = (b : Buy) (s : Sell) → Has bs b → Has ss s → b.order.price < s.order.price
+Apart bs ss = (b : Buy) (s : Sell) → ContainsAt bs b → ContainsAt ss s → b.order.price < s.order.price
 
 -- at most one order of a side has a given number, and none has a number that was not given yet
 abbrev pub Numbered : {X : Type 0} → Kind X → (given : ℕ) → List X → Type 0

@@ -1,7 +1,7 @@
 -- What a trader may rely on, of every order that meets the other side: conservation of quantity, no trade through,
 -- price-time priority, and when quantity is dropped. It is proved of the matching, and speaks only of before and after.
 use Rattle.std.specs.Prelude.{◌≡◌, ℕ, ◌+◌, Bool, true, false, ◌&&◌, ◌||◌, List, [], ◌∷◌, length, nat_le, nat_lt}
-use Rattle.std.specs.List.{AllByRecursion, ContainsAt as Has}
+use Rattle.std.specs.List.{AllByRecursion, ContainsAt}
 use Rattle.book.specs.declared.order.Order.{Order}
 use Rattle.book.specs.declared.order.Booked.{Booked}
 use Rattle.book.specs.declared.fill.Fill.{Fill}
@@ -33,7 +33,7 @@ NoTradeThrough there opposite' fills = AllByRecursion (λ f. AllByRecursion (λ 
 
 -- no order is filled while a better one rests: where y ranks before x and is there after, x is there as it was
 abbrev pub Priority : {X : Type 0} → Kind X → (opposite opposite' : List X) → Type 0
-Priority {X} there opposite opposite' = (x y : X) → Has opposite x → there.before x y ≡ false → Has opposite' y → Has opposite' x
+Priority {X} there opposite opposite' = (x y : X) → ContainsAt opposite x → there.before x y ≡ false → ContainsAt opposite' y → ContainsAt opposite' x
 
 -- quantity is dropped exactly when some is left and is held up
 abbrev pub DroppedWhen : {X Y : Type 0} → Kind X → Order → (room : ℕ) (full : Bool) → (opposite' : List X) (own : List Y) → Booked → Type 0

@@ -2,7 +2,7 @@
 -- fill with the best.
 use Rattle.std.specs.Prelude.{◌≡◌, ℕ, ◌+◌, Bool, true, false, cond, List, [], ◌∷◌, ◌++◌, Option, MatchOption, nat_lt}
 use Rattle.std.specs.List.Sorted.{IsPermutation}
-use Rattle.std.specs.List.{AllByRecursion, ContainsAt as Has}
+use Rattle.std.specs.List.{AllByRecursion, ContainsAt}
 use Rattle.heap.specs.Heaps.{Upto, Heaped}
 use Rattle.book.specs.declared.order.Order.{Order}
 use Rattle.book.specs.declared.order.Resting.{Resting}
@@ -35,7 +35,7 @@ module _ {X : Type 0} (k : Kind X) where
 
   -- the best order rests on the side and ranks before all others there; there is none exactly when the side is empty
   abbrev pub Best : List X → Option Resting → Type 0
-  Best xs r = MatchOption r (xs ≡ []) (λ b. Has xs (k.quoted b) × AllByRecursion (Before (k.quoted b)) xs)
+  Best xs r = MatchOption r (xs ≡ []) (λ b. ContainsAt xs (k.quoted b) × AllByRecursion (Before (k.quoted b)) xs)
 
   -- the quantity of all
   abbrev pub total : List X → ℕ

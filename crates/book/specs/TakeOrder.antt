@@ -1,7 +1,7 @@
 -- What taking an order does to the book, the fill list and the order's quantity, and that the rules leave no choice: from
 -- one book, one order and one fill list there is one outcome.
 use Rattle.std.specs.Prelude.{◌≡◌, ℕ, ◌+◌, Bool, List, [], MatchBool, nat_lt}
-use Rattle.std.specs.List.{ContainsAt as Has}
+use Rattle.std.specs.List.{ContainsAt}
 use Rattle.heap.specs.Held.{held}
 use Rattle.lines.specs.Pages.{Page, full, Written}
 use Rattle.book.specs.declared.order.Side.{Side}
@@ -48,7 +48,7 @@ pub record Taken (b : Book) (o : Order) (p : Page Fill) (b' : Book) (p' : Page F
 
 -- the same orders rest; no side has one twice, since no two have one arrival number
 abbrev pub Same : {X : Type 0} → List X → List X → Type 0
-Same {X} xs ys = ((x : X) → Has xs x → Has ys x) × ((x : X) → Has ys x → Has xs x)
+Same {X} xs ys = ((x : X) → ContainsAt xs x → ContainsAt ys x) × ((x : X) → ContainsAt ys x → ContainsAt xs x)
 
 -- two outcomes are one
 pub record Alike (b : Book) (p : Page Fill) (r : Booked) (b' : Book) (p' : Page Fill) (r' : Booked) : Type 0 where

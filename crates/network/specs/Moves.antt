@@ -7,7 +7,7 @@ use Rattle.std.proofs.lemmas.Bool.{cases_lt}
 use Rattle.std.proofs.lemmas.Bool.Decides.{nat_tests}
 use Rattle.std.specs.Option.{option_map}
 use Rattle.network.specs.Network.{Net, limit, capped, has_room, accepts, arrived, is_waiting, earliest, Follows, Only, Sends, Takes}
-use Rattle.network.specs.Layer.{moved, layered, Moves, hop_at, poll_at, Before}
+use Rattle.network.specs.Layer.{moved, layered, Moves, gap, hop_at, poll_at, Before}
 
 module _ (f : ℕ → ℕ) (x : ℕ) (v : Moves f x) where
   -- the bounds of an arrival are moved with it
@@ -121,6 +121,10 @@ poll_moves g h = record {
   high = λ a. omega (arith, round_high g a h);
   stop = λ a. omega arith;
 }
+
+-- a poll of any gap moves arrivals on, 0 taken as 1
+pub gap_moves : (g : ℕ) → Moves (poll_at (gap g)) (gap g - 1)
+gap_moves g = poll_moves (gap g) (omega arith)
 
 -- what is rounded up to m at most is what lies by the last multiple of g up to m
 round_up : (g m a : ℕ) → 0 < g → a ≤ m - m % g → (a + (g - 1)) / g * g ≤ m

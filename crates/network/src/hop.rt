@@ -1,7 +1,7 @@
 ghost use Rattle.std.specs.Prelude.{◌≡◌};
 ghost use Rattle.network.specs.Layer.{hop_at, hopped};
+ghost use Rattle.network.specs.Moves.{hop_moves};
 ghost use Rattle.network.specs.Network.{Unused};
-ghost use Rattle.std.proofs.Common.{rules};
 
 use crate::layer::{Layer, Shift};
 use crate::network::{END, Network};
@@ -32,7 +32,7 @@ impl Shift for Later {
 
     ghost most = { λ s. s.extra };
 
-    ghost ordered = { Prim.search rules };
+    ghost ordered = { λ s. hop_moves s.extra };
 
     fn most(&self) -> u32 {
         self.extra

@@ -1,9 +1,7 @@
 ghost use Rattle.std.specs.Prelude.{◌≡◌, ◌-◌, ◌%◌, ◌<◌};
 ghost use Rattle.network.specs.Layer.{gap as gap_of, poll_at, polled};
+ghost use Rattle.network.specs.Moves.{gap_moves};
 ghost use Rattle.network.specs.Network.{Unused};
-ghost use Rattle.std.proofs.Common.{arith};
-ghost use Rattle.network.specs.Layer as SpecsLayer;
-ghost use Rattle.network.specs.Moves.{poll_moves};
 
 use crate::layer::{Layer, Shift};
 use crate::network::{END, Network};
@@ -42,7 +40,7 @@ impl Shift for RoundUp {
 
     ghost most = { λ s. gap_of s.gap - 1 };
 
-    ghost ordered = { λ s. poll_moves (SpecsLayer.gap s.gap) (omega arith) };
+    ghost ordered = { λ s. gap_moves s.gap };
 
     fn most(&self) -> u32 {
         self.step() - 1

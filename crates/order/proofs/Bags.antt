@@ -1,6 +1,6 @@
 -- Lists up to a shuffle: what append does, one element more, and lists that are gathered by number.
 use Rattle.std.proofs.Common.{◌≡◌, ℕ, zero, suc, ◌<◌, List, [], ◌∷◌, ◌++◌, sym, refl, ap, ◌∙◌, subst, ⊎_elim, append_assoc, append-nil, arith}
-use Rattle.std.specs.List.{AllByRecursion as All}
+use Rattle.std.specs.List.{AllByRecursion}
 use Rattle.std.specs.List.Sorted.{IsPermutation}
 use Rattle.std.proofs.lemmas.List.Sorted.{IsPermutation-refl, IsPermutation-sym, IsPermutation-trans, IsPermutation-cons, IsPermutation-swap}
 use Rattle.std.proofs.lemmas.Bool.{cases_eq}
@@ -94,7 +94,7 @@ module _ {X : Type 0} where
       (cases_eq k n)
 
   -- what holds of each in every list holds of each that is gathered
-  pub all_gathered : (P : X → Type 0) (f : ℕ → List X) (n : ℕ) → ((k : ℕ) → k < n → All P (f k)) → All P (gathered f n)
+  pub all_gathered : (P : X → Type 0) (f : ℕ → List X) (n : ℕ) → ((k : ℕ) → k < n → AllByRecursion P (f k)) → AllByRecursion P (gathered f n)
   all_gathered P f zero h = tt
   all_gathered P f (suc n) h = All-append P (gathered f n) (f n) (all_gathered P f n (λ k p. h k (omega arith))) (h n (omega arith))
 

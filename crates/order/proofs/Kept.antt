@@ -1,6 +1,6 @@
 -- What every run keeps, call by call.
 use Rattle.std.proofs.Common.{◌≡◌, ℕ, ◌+◌, ◌-◌, ◌<◌, ◌≤◌, Bool, true, false, not, ◌&&◌, eqb, List, [], ◌∷◌, ◌++◌, length, get_or, take, set, Ok, Err, sym, refl, ap, ◌∙◌, subst, inl, inr, ⊎_elim, true≢false, arith, length-append, length-set, get_or-set_same}
-use Rattle.std.specs.List.{AllByRecursion as All}
+use Rattle.std.specs.List.{AllByRecursion}
 use Rattle.std.specs.List.Sorted.{IsPermutation}
 use Rattle.std.proofs.lemmas.Bool.{cases_eq, eq-eqb, ne_eqb, leb-false, cond-true, cond-false}
 use Rattle.std.proofs.lemmas.Bool.Decides.{nat_tests, when_true}
@@ -297,7 +297,7 @@ release_kept es u v x h s =
     let P : World → Type 0 = λ w. Kept (event.Release (Ok x) ∷ es) w in
     let l = x.line in
     let k = l.trade.seat in
-    let first : Held u.seats l.trade × All (Held u.seats) s.others = all_shuffled (Held u.seats) u.buffer (l.trade ∷ s.others) s.head.all h.lined.held in
+    let first : Held u.seats l.trade × AllByRecursion (Held u.seats) s.others = all_shuffled (Held u.seats) u.buffer (l.trade ∷ s.others) s.head.all h.lined.held in
     let q : k < length u.seats = first.0.seat in
     let new = released_once (seat_of u k) in
     let front : tape_of u ++ l ∷ [] ≡ take s.page.used s.page.lines = sym s.wrote.front in

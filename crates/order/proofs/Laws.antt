@@ -1,6 +1,6 @@
 -- The parts of the law, from what every run keeps.
 use Rattle.std.proofs.Common.{◌≡◌, ℕ, suc, ◌+◌, ◌-◌, ◌<◌, ◌⊎◌, List, [], ◌∷◌, ◌++◌, length, sym, refl, ap, ◌∙◌, subst, inl, inr, ⊎_elim, append-nil, arith, length-append}
-use Rattle.std.specs.List.{AllByRecursion as All}
+use Rattle.std.specs.List.{AllByRecursion}
 use Rattle.std.specs.List.Sorted.{IsPermutation}
 use Rattle.std.proofs.lemmas.List.Sorted.{IsPermutation-sym, IsPermutation-trans, length_permutation}
 use Rattle.std.proofs.ByRecursion.{all_shuffled, All-append, All-weaker}
@@ -21,7 +21,7 @@ use Rattle.order.proofs.Lined.{InRank, Placed, Passed, passed_precedes}
 use Rattle.order.proofs.Kept.{Kept, run_kept, fresh_kept}
 
 -- the trades on the way of seat k have yet to come
-pub all_coming : (es : List Event) (v : World) (h : Kept es v) (k : ℕ) → k < length v.seats → All (Coming k (seat_of v k).collected (seat_of v k).watermark) (trades_among (carried v.reverse k))
+pub all_coming : (es : List Event) (v : World) (h : Kept es v) (k : ℕ) → k < length v.seats → AllByRecursion (Coming k (seat_of v k).collected (seat_of v k).watermark) (trades_among (carried v.reverse k))
 all_coming es v h k p =
     let s = h.seated k p in
     coming k (seat_of v k).collected (seat_of v k).watermark (carried v.reverse k) (seat_of v k).submitted (ceiling (seat_of v k).condition (record { batch = (seat_of v k).batch; elapsed = v.last - v.clock k })) s.count s.climb
@@ -33,7 +33,7 @@ kept_conserved es v h = record {
   in_rank = both (trades_on (tape_of v)) h.lined.passed h.lined.behind;
 }
   where
-    both : (ts : List Trade) → All (Passed v.seats) ts → All (λ x. All (Precedes x) v.buffer) ts → All (λ x. All (Precedes x) (v.buffer ++ on_the_way v)) ts
+    both : (ts : List Trade) → AllByRecursion (Passed v.seats) ts → AllByRecursion (λ x. AllByRecursion (Precedes x) v.buffer) ts → AllByRecursion (λ x. AllByRecursion (Precedes x) (v.buffer ++ on_the_way v)) ts
     both [] p b = tt
     both (x ∷ ts) p b = (
       All-append (Precedes x) v.buffer (on_the_way v) b.0
@@ -50,23 +50,23 @@ In [] x = ⊥
 In (y ∷ ys) x = (y ≡ x) ⊎ In ys x
 
 -- a longer list has all that the shorter had
-all_in_more : (y : Trade) (ys xs : List Trade) → All (In ys) xs → All (In (y ∷ ys)) xs
+all_in_more : (y : Trade) (ys xs : List Trade) → AllByRecursion (In ys) xs → AllByRecursion (In (y ∷ ys)) xs
 all_in_more y ys [] h = tt
 all_in_more y ys (x ∷ xs) h = (inr h.0, all_in_more y ys xs h.1)
 
 -- a list has all its own
-all_in : (xs : List Trade) → All (In xs) xs
+all_in : (xs : List Trade) → AllByRecursion (In xs) xs
 all_in [] = tt
 all_in (x ∷ xs) = (inl refl, all_in_more x xs xs (all_in xs))
 
 -- what holds of each holds of one that stands there
-all_at : (P : Trade → Type 0) (xs : List Trade) (x : Trade) → All P xs → In xs x → P x
+all_at : (P : Trade → Type 0) (xs : List Trade) (x : Trade) → AllByRecursion P xs → In xs x → P x
 all_at P [] x h i = absurd i
 all_at P (y ∷ xs) x h (inl e) = subst P e h.0
 all_at P (y ∷ xs) x h (inr i) = all_at P xs x h.1 i
 
 -- what comes after x is not x, so it stands in the rest
-all_rest : (x : Trade) (ys zs : List Trade) → All (Precedes x) zs → All (In (x ∷ ys)) zs → All (In ys) zs
+all_rest : (x : Trade) (ys zs : List Trade) → AllByRecursion (Precedes x) zs → AllByRecursion (In (x ∷ ys)) zs → AllByRecursion (In ys) zs
 all_rest x ys [] h k = tt
 all_rest x ys (z ∷ zs) h k = (
   ⊎_elim (λ (e : x ≡ z). absurd (let p : Precedes z z = subst (λ (y : Trade). Precedes y z) e h.0 in precedes_not z z p p)) (λ (i : In ys z). i) k.0,
@@ -74,14 +74,14 @@ all_rest x ys (z ∷ zs) h k = (
 )
 
 -- two lists in rank with the same elements are equal
-pub ranked_same : (xs ys : List Trade) → InRank xs → InRank ys → All (In xs) ys → All (In ys) xs → xs ≡ ys
+pub ranked_same : (xs ys : List Trade) → InRank xs → InRank ys → AllByRecursion (In xs) ys → AllByRecursion (In ys) xs → xs ≡ ys
 ranked_same [] [] hx hy a b = refl
 ranked_same [] (y ∷ ys) hx hy a b = absurd a.0
 ranked_same (x ∷ xs) [] hx hy a b = absurd b.0
 ranked_same (x ∷ xs) (y ∷ ys) hx hy a b =
     let e : x ≡ y = heads a.0 b.0 in
-    let a' : All (In xs) ys = all_rest x xs ys (subst (λ (z : Trade). All (Precedes z) ys) (sym e) hy.0) a.1 in
-    let b' : All (In ys) xs = all_rest y ys xs (subst (λ (z : Trade). All (Precedes z) xs) e hx.0) b.1 in
+    let a' : AllByRecursion (In xs) ys = all_rest x xs ys (subst (λ (z : Trade). AllByRecursion (Precedes z) ys) (sym e) hy.0) a.1 in
+    let b' : AllByRecursion (In ys) xs = all_rest y ys xs (subst (λ (z : Trade). AllByRecursion (Precedes z) xs) e hx.0) b.1 in
     let rest : xs ≡ ys = ranked_same xs ys hx.1 hy.1 a' b' in
     cc
   where
@@ -139,7 +139,7 @@ equal_tapes w v w' v' es fs o r s o' r' s' =
     )
 
 -- a seat whose watermark is top has no trade on the way
-none_coming : (k c : ℕ) (xs : List Trade) → All (Coming k c Top) xs → xs ≡ []
+none_coming : (k c : ℕ) (xs : List Trade) → AllByRecursion (Coming k c Top) xs → xs ≡ []
 none_coming k c [] h = refl
 none_coming k c (x ∷ xs) h = absurd h.0.tag
 
@@ -153,7 +153,7 @@ settlement w v es o r =
     let h = run_kept w (fresh_kept w o) es v r in (
       λ s.
           let way : on_the_way v ≡ [] = gathered_empty (λ k. trades_among (carried v.reverse k)) (length v.seats)
-          (λ k p. none_coming k (seat_of v k).collected (trades_among (carried v.reverse k)) (subst (λ (m : Watermark). All (Coming k (seat_of v k).collected m) (trades_among (carried v.reverse k))) (s.ended k p) (all_coming es v h k p))) in
+          (λ k p. none_coming k (seat_of v k).collected (trades_among (carried v.reverse k)) (subst (λ (m : Watermark). AllByRecursion (Coming k (seat_of v k).collected m) (trades_among (carried v.reverse k))) (s.ended k p) (all_coming es v h k p))) in
           let rest : v.buffer ++ on_the_way v ≡ [] = ap (λ (l : List Trade). l ++ on_the_way v) s.empty ∙ way in
           let short : length (v.buffer ++ on_the_way v) ≡ 0 = ap length rest in
           record {

@@ -1,6 +1,6 @@
 -- What every run keeps of the accepted trades: where they are, and in which order.
 use Rattle.std.proofs.Common.{◌≡◌, ℕ, ◌+◌, ◌<◌, ◌≤◌, true, cond, ◌&&◌, eqb, ◌⊎◌, List, [], ◌∷◌, ◌++◌, length, get_or, set, sum_by, sym, refl, ap, ◌∙◌, subst, inl, inr, ⊎_elim, arith, length-set, get_or-set_other, get_or-set_same}
-use Rattle.std.specs.List.{AllByRecursion as All}
+use Rattle.std.specs.List.{AllByRecursion}
 use Rattle.std.specs.List.Sorted.{IsPermutation}
 use Rattle.std.proofs.lemmas.Bool.{cases_eq}
 use Rattle.std.proofs.lemmas.Bool.Decides.{nat_tests}
@@ -96,7 +96,7 @@ abbrev pub times : (k n : ℕ) → List Trade → ℕ
 times k n xs = sum_by (named k n) xs
 
 -- none has, where all serials of the seat are lower
-times_none : (f : ℕ → ℕ) (k n : ℕ) → f k < n → (xs : List Trade) → All (λ x. x.serial ≤ f x.seat) xs → times k n xs ≡ 0
+times_none : (f : ℕ → ℕ) (k n : ℕ) → f k < n → (xs : List Trade) → AllByRecursion (λ x. x.serial ≤ f x.seat) xs → times k n xs ≡ 0
 times_none f k n p [] h = refl
 times_none f k n p (x ∷ xs) h =
     let ih : times k n xs ≡ 0 = times_none f k n p xs h.1 in
@@ -105,7 +105,7 @@ times_none f k n p (x ∷ xs) h =
     omega (arith, sum_by-cons (named k n) x xs)
 
 -- where none has, each differs in seat or serial
-none_times : (k n : ℕ) (xs : List Trade) → times k n xs ≡ 0 → All (λ x. k ≡ x.seat → n ≡ x.serial → ⊥) xs
+none_times : (k n : ℕ) (xs : List Trade) → times k n xs ≡ 0 → AllByRecursion (λ x. k ≡ x.seat → n ≡ x.serial → ⊥) xs
 none_times k n [] h = tt
 none_times k n (x ∷ xs) h =
     let all = sum_by-cons (named k n) x xs in
@@ -115,10 +115,10 @@ none_times k n (x ∷ xs) h =
 -- trades in rank
 abbrev pub InRank : List Trade → Type 0
 InRank [] = Unit {0}
-InRank (x ∷ xs) = All (Precedes x) xs × InRank xs
+InRank (x ∷ xs) = AllByRecursion (Precedes x) xs × InRank xs
 
 -- one more that all the others precede
-in_rank_push : (xs : List Trade) (x : Trade) → InRank xs → All (λ y. Precedes y x) xs → InRank (xs ++ x ∷ [])
+in_rank_push : (xs : List Trade) (x : Trade) → InRank xs → AllByRecursion (λ y. Precedes y x) xs → InRank (xs ++ x ∷ [])
 in_rank_push [] x h k = (tt, tt)
 in_rank_push (y ∷ xs) x h k = (All-push (Precedes y) xs x h.0 k.0, in_rank_push xs x h.1 k.1)
 
@@ -141,10 +141,10 @@ trades_on_push (x ∷ ls) l = ap (λ (r : List Trade). x.trade ∷ r) (trades_on
 pub record Lined (all : List Trade) (seats : List Seat) (buffer : List Trade) (tape : List Line) (way : List Trade) : Type 0 where
   pub each_once : IsPermutation all (trades_on tape ++ (buffer ++ way))
   pub apart : (k n : ℕ) → times k n all ≤ 1
-  pub numbered : All (λ x. x.serial ≤ (at_seat seats x.seat).submitted) all
-  pub held : All (Held seats) buffer
-  pub passed : All (Passed seats) (trades_on tape)
-  pub behind : All (λ x. All (Precedes x) buffer) (trades_on tape)
+  pub numbered : AllByRecursion (λ x. x.serial ≤ (at_seat seats x.seat).submitted) all
+  pub held : AllByRecursion (Held seats) buffer
+  pub passed : AllByRecursion (Passed seats) (trades_on tape)
+  pub behind : AllByRecursion (λ x. AllByRecursion (Precedes x) buffer) (trades_on tape)
   pub in_rank : InRank (trades_on tape)
   pub placed : Placed 1 tape
 
@@ -213,17 +213,17 @@ lined_collect {all} {seats} {later} {buffer} {buffer'} {tape} {way} {way'} x g k
       placed = h.placed;
     }
   where
-    both : (ts : List Trade) → All (Passed seats) ts → All (λ y. All (Precedes y) buffer) ts → x.seat < length seats → All (λ y. All (Precedes y) buffer') ts
+    both : (ts : List Trade) → AllByRecursion (Passed seats) ts → AllByRecursion (λ y. AllByRecursion (Precedes y) buffer) ts → x.seat < length seats → AllByRecursion (λ y. AllByRecursion (Precedes y) buffer') ts
     both [] h₁ h₂ p = tt
     both (y ∷ ts) h₁ h₂ p = (all_shuffled (Precedes y) (x ∷ buffer) buffer' b (passed_precedes seats y x.seat p h₁.0 x c, h₂.0), both ts h₁.1 h₂.1 p)
 
 -- the first trade of the buffer is released
-pub lined_release : {all : List Trade} {seats later : List Seat} {buffer buffer' : List Trade} {tape : List Line} {way way' : List Trade} (l : Line) → Grown seats later → IsPermutation buffer (l.trade ∷ buffer') → All (TradeUpto l.trade) buffer' → ((j : ℕ) → j < length seats → (j ≡ l.trade.seat → ⊥) → above (at_seat seats j).watermark l.trade.tag ≡ true) → l.place ≡ length tape + 1 → way' ≡ way → Lined all seats buffer tape way → Lined all later buffer' (tape ++ l ∷ []) way'
+pub lined_release : {all : List Trade} {seats later : List Seat} {buffer buffer' : List Trade} {tape : List Line} {way way' : List Trade} (l : Line) → Grown seats later → IsPermutation buffer (l.trade ∷ buffer') → AllByRecursion (TradeUpto l.trade) buffer' → ((j : ℕ) → j < length seats → (j ≡ l.trade.seat → ⊥) → above (at_seat seats j).watermark l.trade.tag ≡ true) → l.place ≡ length tape + 1 → way' ≡ way → Lined all seats buffer tape way → Lined all later buffer' (tape ++ l ∷ []) way'
 lined_release {all} {seats} {later} {buffer} {buffer'} {tape} {way} {way'} l g b first clear place e h =
     let x = l.trade in
-    let all_held : Held seats x × All (Held seats) buffer' = all_shuffled (Held seats) buffer (x ∷ buffer') b h.held in
-    let fresh : All (λ y. x.seat ≡ y.seat → x.serial ≡ y.serial → ⊥) buffer' = none_times x.seat x.serial buffer' lone in
-    let after : All (Precedes x) buffer' = all_after buffer' first fresh in
+    let all_held : Held seats x × AllByRecursion (Held seats) buffer' = all_shuffled (Held seats) buffer (x ∷ buffer') b h.held in
+    let fresh : AllByRecursion (λ y. x.seat ≡ y.seat → x.serial ≡ y.serial → ⊥) buffer' = none_times x.seat x.serial buffer' lone in
+    let after : AllByRecursion (Precedes x) buffer' = all_after buffer' first fresh in
     let tape-is = trades_on_push tape l in
     let now-passed : Passed seats x = record { held = all_held.0; clear = clear } in
     let split = cut (trades_on tape) h.behind in
@@ -234,8 +234,8 @@ lined_release {all} {seats} {later} {buffer} {buffer'} {tape} {way} {way'} l g b
       apart = h.apart;
       numbered = All-weaker (λ x. x.serial ≤ (at_seat seats x.seat).submitted) (λ x. x.serial ≤ (at_seat later x.seat).submitted) (λ x p. omega (arith, g.submitted x.seat)) all h.numbered;
       held = All-weaker (Held seats) (Held later) (held_on g) buffer' all_held.1;
-      passed = subst (λ (r : List Trade). All (Passed later) r) (sym tape-is) (All-push (Passed later) (trades_on tape) x (All-weaker (Passed seats) (Passed later) (passed_on g) (trades_on tape) h.passed) (passed_on g x now-passed));
-      behind = subst (λ (r : List Trade). All (λ y. All (Precedes y) buffer') r) (sym tape-is) (All-push (λ y. All (Precedes y) buffer') (trades_on tape) x split.1 after);
+      passed = subst (λ (r : List Trade). AllByRecursion (Passed later) r) (sym tape-is) (All-push (Passed later) (trades_on tape) x (All-weaker (Passed seats) (Passed later) (passed_on g) (trades_on tape) h.passed) (passed_on g x now-passed));
+      behind = subst (λ (r : List Trade). AllByRecursion (λ y. AllByRecursion (Precedes y) buffer') r) (sym tape-is) (All-push (λ y. AllByRecursion (Precedes y) buffer') (trades_on tape) x split.1 after);
       in_rank = subst InRank (sym tape-is) (in_rank_push (trades_on tape) x h.in_rank split.0);
       placed = placed_push 1 tape l h.placed place;
     }
@@ -253,13 +253,13 @@ lined_release {all} {seats} {later} {buffer} {buffer'} {tape} {way} {way'} l g b
         let one : named k n l.trade ≡ 1 = grind (arith, nat_tests) in
         omega arith
 
-    all_after : (ys : List Trade) → All (TradeUpto l.trade) ys → All (λ y. l.trade.seat ≡ y.seat → l.trade.serial ≡ y.serial → ⊥) ys → All (Precedes l.trade) ys
+    all_after : (ys : List Trade) → AllByRecursion (TradeUpto l.trade) ys → AllByRecursion (λ y. l.trade.seat ≡ y.seat → l.trade.serial ≡ y.serial → ⊥) ys → AllByRecursion (Precedes l.trade) ys
     all_after [] f₁ f₂ = tt
     all_after (y ∷ ys) f₁ f₂ = (precedes_total l.trade y f₁.0 f₂.0, all_after ys f₁.1 f₂.1)
 
-    cut : (ts : List Trade) → All (λ y. All (Precedes y) buffer) ts → All (λ y. Precedes y l.trade) ts × All (λ y. All (Precedes y) buffer') ts
+    cut : (ts : List Trade) → AllByRecursion (λ y. AllByRecursion (Precedes y) buffer) ts → AllByRecursion (λ y. Precedes y l.trade) ts × AllByRecursion (λ y. AllByRecursion (Precedes y) buffer') ts
     cut [] f = (tt, tt)
     cut (y ∷ ts) f =
-        let here : Precedes y l.trade × All (Precedes y) buffer' = all_shuffled (Precedes y) buffer (l.trade ∷ buffer') b f.0 in
+        let here : Precedes y l.trade × AllByRecursion (Precedes y) buffer' = all_shuffled (Precedes y) buffer (l.trade ∷ buffer') b f.0 in
         let rest = cut ts f.1 in
         ((here.0, rest.0), (here.1, rest.1))

@@ -1,6 +1,6 @@
 -- What stands on a seat's two links: batches that follow one another, and messages whose tags and serials climb.
 use Rattle.std.proofs.Common.{◌≡◌, ℕ, ◌+◌, ◌<◌, ◌≤◌, List, [], ◌∷◌, ◌++◌, refl, ap, arith}
-use Rattle.std.specs.List.{AllByRecursion as All}
+use Rattle.std.specs.List.{AllByRecursion}
 use Rattle.records.specs.declared.batch.Batch.{Batch}
 use Rattle.records.specs.declared.message.Message.{Message}
 use Rattle.records.specs.declared.message.Message.TheVariants as message
@@ -76,10 +76,10 @@ pub record Coming (k c : ℕ) (low : Watermark) (x : Trade) : Type 0 where
   pub tag : Upto low (At x.tag)
 
 -- every trade on the link is such a one
-pub coming : (k c : ℕ) (low : Watermark) (ms : List Message) (s : ℕ) (high : Watermark) → Count k c ms s → Climb low ms high → All (Coming k c low) (trades_among ms)
+pub coming : (k c : ℕ) (low : Watermark) (ms : List Message) (s : ℕ) (high : Watermark) → Count k c ms s → Climb low ms high → AllByRecursion (Coming k c low) (trades_among ms)
 coming k c low ms s high h u = go c low c low ms (omega arith) (upto_refl low) h u
   where
-    go : (c₀ : ℕ) (low₀ : Watermark) (c : ℕ) (low : Watermark) (ms : List Message) → c₀ ≤ c → Upto low₀ low → Count k c ms s → Climb low ms high → All (Coming k c₀ low₀) (trades_among ms)
+    go : (c₀ : ℕ) (low₀ : Watermark) (c : ℕ) (low : Watermark) (ms : List Message) → c₀ ≤ c → Upto low₀ low → Count k c ms s → Climb low ms high → AllByRecursion (Coming k c₀ low₀) (trades_among ms)
     go c₀ low₀ c low [] p q h u = tt
     go c₀ low₀ c low (message.Trade x ∷ ms) p q h u = (
       record { seat = h.0; serial = omega arith; tag = upto_trans low₀ low (At x.tag) q u.0 },

@@ -2,7 +2,7 @@
 -- distance.
 use Rattle.std.proofs.Common.{◌≡◌, ℕ, ◌+◌, ◌-◌, ◌<◌, ◌≤◌, Bool, true, false, cond, ◌&&◌, eqb, leb, List, [], ◌∷◌, length, get_or, set, Ok, Err, sym, refl, ap, ◌∙◌, subst, ⊎_elim, true≢false, arith}
 use mathlib.Core.Path.{fun_ext}
-use Rattle.std.specs.List.{AllByRecursion as All}
+use Rattle.std.specs.List.{AllByRecursion}
 use Rattle.std.proofs.ByRecursion.{All-weaker, All-push, all_shuffled}
 use Rattle.std.proofs.lemmas.Bool.{cases_lt, leb-false}
 use Rattle.std.proofs.lemmas.Bool.Decides.{nat_tests}
@@ -76,7 +76,7 @@ Known of b = (1 ≤ b.number) × ((p : ℕ) → b.first ≤ p → p < b.first + 
 pub record Pace (horizon : ℕ) (of when : ℕ → ℕ) (s : Seat) (mark : ℕ) (due : List Batch) : Type 0 where
   pub told : (p : ℕ) → 1 ≤ p → p ≤ s.point → (1 ≤ of p) × (when p ≤ mark) × (mark < when p + horizon → (of p ≡ s.batch) × (when p ≡ mark))
   pub bare : is_bare s.condition ≡ true → s.point ≡ 0
-  pub known : Open s → All (Known of) due
+  pub known : Open s → AllByRecursion (Known of) due
 
 -- a submission within the horizon is tagged with its trigger's batch and its response
 abbrev pub Prompt : ℕ → (ℕ → ℕ) → Submission → Type 0
@@ -89,7 +89,7 @@ pub record Paces (horizon points : ℕ) (of : ℕ → ℕ) (when : ℕ → ℕ �
   pub written : points ≡ v.market.points
   pub unsealed : (p : ℕ) → sealed_points v < p → of p ≡ 0
   pub pace : (k : ℕ) → k < length v.seats → Pace horizon of (when k) (seat_of v k) (v.clock k) (carried v.forward k)
-  pub prompt : All (Prompt horizon of) all
+  pub prompt : AllByRecursion (Prompt horizon of) all
 
 -- when a point reached a seat
 abbrev pub reached_at : List Event → (k p : ℕ) → ℕ
@@ -171,7 +171,7 @@ module _ (horizon : ℕ) (es : List Event) (u v : World) (kept : Kept es u) (h :
               known = λ o.
                   (let is-due : due u.seats k ≡ true = grind (arith, nat_tests) in
                   let a = subst (λ (d : Bool). DealtLink d (u.forward.formula k 0 t) u.forward.longest (u.forward.links k) (s.net.links k) t b) is-due (s.dealt.links k) in
-                  subst (λ (l : List Batch). All (Known new) l) (sym (ap records a.pairs ∙ records_push (u.forward.links k).pairs a.arrival b))
+                  subst (λ (l : List Batch). AllByRecursion (Known new) l) (sym (ap records a.pairs ∙ records_push (u.forward.links k).pairs a.arrival b))
                   (All-push (Known new) (carried u.forward k) b (old.known o) fresh));
             });
         prompt = All-weaker (Prompt horizon (batch_of es)) (Prompt horizon new) (prompt_stays (batch_of es) new stays horizon) (submissions es) h.prompt;
@@ -189,7 +189,7 @@ module _ (horizon : ℕ) (es : List Event) (u v : World) (kept : Kept es u) (h :
       let old = h.pace k q in
       let own = kept.seated k q in
       let is : carried u.forward k ≡ b ∷ carried s.net k = ap records s.taken.pairs in
-      let known : All (Known (batch_of es)) (b ∷ carried s.net k) = subst (λ (l : List Batch). All (Known (batch_of es)) l) is (old.known not-ended) in
+      let known : AllByRecursion (Known (batch_of es)) (b ∷ carried s.net k) = subst (λ (l : List Batch). AllByRecursion (Known (batch_of es)) l) is (old.known not-ended) in
       let follow : Follow (seat_of u k).batch (seat_of u k).point (b ∷ carried s.net k) u.market.batches (sealed_points u) = subst (λ (l : List Batch). Follow (seat_of u k).batch (seat_of u k).point l u.market.batches (sealed_points u)) is (own.follow not-ended) in
       let mark : marked u.clock k t k ≡ t = grind (arith, nat_tests) in
       let when = reached_at (event.Deliver t k (Ok b) ∷ es) k in
@@ -296,7 +296,7 @@ module _ (horizon : ℕ) (es : List Event) (u v : World) (kept : Kept es u) (h :
   release_paced x s =
       let P : World → Type 0 = λ w. Paced horizon (event.Release (Ok x) ∷ es) w in
       let l = x.line.trade in
-      let first : Held u.seats l × All (Held u.seats) s.others = all_shuffled (Held u.seats) u.buffer (l ∷ s.others) s.head.all kept.lined.held in
+      let first : Held u.seats l × AllByRecursion (Held u.seats) s.others = all_shuffled (Held u.seats) u.buffer (l ∷ s.others) s.head.all kept.lined.held in
       let q : l.seat < length u.seats = first.0.seat in
       let old = h.pace l.seat q in
       subst P (sym s.after) (record {

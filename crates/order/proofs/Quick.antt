@@ -1,6 +1,6 @@
 -- The law of responses: of two trades on one trigger, both within the horizon, the quicker stands first on the tape.
 use Rattle.std.proofs.Common.{◌≡◌, ℕ, zero, suc, ◌+◌, ◌<◌, ◌⊎◌, List, [], ◌∷◌, length, get_or, sym, refl, ap, ◌∙◌, subst, ⊎_elim, arith}
-use Rattle.std.specs.List.{ContainsAt as Has}
+use Rattle.std.specs.List.{ContainsAt}
 use Rattle.std.proofs.ByRecursion.{All-get_or, all-has}
 use Rattle.std.proofs.lemmas.Bool.{cases_order}
 use Rattle.records.specs.declared.line.Line.{Line}
@@ -41,7 +41,7 @@ trade_at (l ∷ ls) zero d p = (omega arith, refl)
 trade_at (l ∷ ls) (suc i) d p = let more = trade_at ls i d (omega arith) in (omega arith, more.1)
 
 -- on a tape in rank, the line of the trade that precedes has the smaller place
-stands_first : (ls : List Line) → InRank (trades_on ls) → Placed 1 ls → (l m : Line) → Has ls l → Has ls m → Precedes l.trade m.trade → l.place < m.place
+stands_first : (ls : List Line) → InRank (trades_on ls) → Placed 1 ls → (l m : Line) → ContainsAt ls l → ContainsAt ls m → Precedes l.trade m.trade → l.place < m.place
 stands_first ls h p l m at-l at-m before =
     let i = at-l.0 in
     let j = at-m.0 in

@@ -2,7 +2,7 @@
 -- meaning, whatever the list of calls. A session starts fresh: just opened, over networks that were never used, a
 -- stop-clock that was never marked, and a tape without lines, all of which these calls alone change.
 use Rattle.std.specs.Prelude.{◌≡◌, ℕ, zero, suc, ◌<◌, ◌≤◌, List, [], ◌∷◌, ◌++◌, length}
-use Rattle.std.specs.List.{ContainsAt as Has, AllByRecursion as All}
+use Rattle.std.specs.List.{ContainsAt, AllByRecursion}
 use Rattle.std.specs.List.Sorted.{IsPermutation}
 use Rattle.network.specs.Network.{Net}
 use Rattle.records.specs.declared.line.Line.{Line}
@@ -54,7 +54,7 @@ on_the_way w = gathered (λ k. trades_among (carried w.reverse k)) (length w.sea
 -- and every one that is not on the tape ranks after all that are.
 pub record Conserved (es : List Event) (v : World) : Type 0 where
   pub each_once : IsPermutation (accepted_trades es) (trades_on (tape_of v) ++ (v.buffer ++ on_the_way v))
-  pub in_rank : All (λ x. All (Precedes x) (v.buffer ++ on_the_way v)) (trades_on (tape_of v))
+  pub in_rank : AllByRecursion (λ x. AllByRecursion (Precedes x) (v.buffer ++ on_the_way v)) (trades_on (tape_of v))
 
 abbrev pub Conservation : Type 0
 Conservation = (w v : World) (es : List Event) → Fresh w → Run w es v → Conserved es v
@@ -71,8 +71,8 @@ Quicker a b =
 abbrev pub Responses : Type 0
 Responses =
     (w v : World) (es : List Event) → Fresh w → Run w es v
-    → (a b : Submission) (l m : Line) → Has (submissions es) a → Has (submissions es) b
-    → Has (tape_of v) l → Has (tape_of v) m → l.trade ≡ a.trade → m.trade ≡ b.trade
+    → (a b : Submission) (l m : Line) → ContainsAt (submissions es) a → ContainsAt (submissions es) b
+    → ContainsAt (tape_of v) l → ContainsAt (tape_of v) m → l.trade ≡ a.trade → m.trade ≡ b.trade
     → a.trade.trigger ≡ b.trade.trigger
     → a.response < w.times.horizon → b.response < w.times.horizon
     → Quicker a b → l.place < m.place
@@ -110,4 +110,4 @@ abbrev pub SomeSettles : Type 0
 SomeSettles =
     (w : World) × (v : World) × (es : List Event) × Fresh w × Run w es v × Settled v
     × (length (tape_of v) ≡ 2)
-    × All (λ x. (x.trade.trigger ≡ 1) × (x.response < w.times.horizon)) (submissions es)
+    × AllByRecursion (λ x. (x.trade.trigger ≡ 1) × (x.response < w.times.horizon)) (submissions es)

@@ -3,7 +3,7 @@
 use Rattle.std.proofs.Common.{◌≡◌, ℕ, zero, suc, ◌+◌, ◌*◌, ◌<◌, ◌≤◌, true, cond, ◌&&◌, eqb, ltb, leb, List, [], ◌∷◌, length, get_or, set, replicate, count_by, sym, refl, ap, ◌∙◌, subst, ⊎_elim, arith, length-set, get_or-set_other, get_or-set_same}
 use lib.ListN.{length-replicate, get_or-replicate}
 use Rattle.std.specs.List.Sorted.{IsPermutation}
-use Rattle.std.specs.List.{ContainsAt as Has, AllByRecursion as All}
+use Rattle.std.specs.List.{ContainsAt, AllByRecursion}
 use Rattle.std.proofs.ByRecursion.{all-has, all_shuffled, has_shuffled}
 use Rattle.std.proofs.lemmas.List.{get_or_past}
 use Rattle.std.proofs.lemmas.List.Sorted.{IsPermutation-sym, sum_by-IsPermutation}
@@ -32,7 +32,7 @@ pub record Counts (s : Seat) (buffered : ℕ) : Type 0 where
 -- what a session keeps of its seats and its buffer, seat by seat
 pub record Balanced (seats : List Seat) (buffer : List Trade) : Type 0 where
   pub few : length seats ≤ most_seats
-  pub known : All (λ x. x.seat < length seats) buffer
+  pub known : AllByRecursion (λ x. x.seat < length seats) buffer
   pub tallied : (k : ℕ) → k < length seats → Counts (get_or seats k blank) (of_seat k buffer)
 
 -- 1 for a seat that is the given one
@@ -56,7 +56,7 @@ of_seat_shuffled : (k : ℕ) (xs ys : List Trade) → IsPermutation xs ys → of
 of_seat_shuffled k = sum_by-IsPermutation (one k)
 
 -- a list without trades of the seats from n on
-known_below : (n : ℕ) (xs : List Trade) → ((k : ℕ) → n ≤ k → of_seat k xs ≡ 0) → All (λ x. x.seat < n) xs
+known_below : (n : ℕ) (xs : List Trade) → ((k : ℕ) → n ≤ k → of_seat k xs ≡ 0) → AllByRecursion (λ x. x.seat < n) xs
 known_below n [] h = tt
 known_below n (x ∷ xs) h = (
   ⊎_elim (λ lt. lt) (λ le. absurd (let own = of_seat_own x.seat x xs refl in let none = h x.seat le in omega arith)) (cases_lt x.seat n),
@@ -64,7 +64,7 @@ known_below n (x ∷ xs) h = (
 )
 
 -- and the other way round
-none_from : (n k : ℕ) (xs : List Trade) → n ≤ k → All (λ x. x.seat < n) xs → of_seat k xs ≡ 0
+none_from : (n k : ℕ) (xs : List Trade) → n ≤ k → AllByRecursion (λ x. x.seat < n) xs → of_seat k xs ≡ 0
 none_from n k [] le h = refl
 none_from n k (x ∷ xs) le h = of_seat_other k x xs (λ e. let lt = h.0 in omega arith) ∙ none_from n k xs le h.1
 
@@ -96,11 +96,11 @@ pub balanced_trades : (seats : List Seat) (buffer : List Trade) → Balanced sea
 balanced_trades seats buffer b k = (each_seat seats buffer b k).most
 
 -- a seat's record and the buffer change: the balance stays if the two agree, and the buffer has as many of each other seat
-balanced_set : (seats : List Seat) (buffer buffer' : List Trade) (k : ℕ) (s : Seat) → Balanced seats buffer → All (λ x. x.seat < length seats) buffer' → (k < length seats → Counts s (of_seat k buffer')) → ((j : ℕ) → (j ≡ k → ⊥) → of_seat j buffer' ≡ of_seat j buffer) → Balanced (set seats k s) buffer'
+balanced_set : (seats : List Seat) (buffer buffer' : List Trade) (k : ℕ) (s : Seat) → Balanced seats buffer → AllByRecursion (λ x. x.seat < length seats) buffer' → (k < length seats → Counts s (of_seat k buffer')) → ((j : ℕ) → (j ≡ k → ⊥) → of_seat j buffer' ≡ of_seat j buffer) → Balanced (set seats k s) buffer'
 balanced_set seats buffer buffer' k s b known own others =
     let long = length-set seats k s in record {
       few = let few = b.few in omega arith;
-      known = subst (λ (n : ℕ). All (λ x. x.seat < n) buffer') (sym long) known;
+      known = subst (λ (n : ℕ). AllByRecursion (λ x. x.seat < n) buffer') (sym long) known;
       tallied = λ j lt. let inside : j < length seats = omega arith in ⊎_elim
           (λ e. let here : k < length seats = omega arith in subst (λ (i : ℕ). Counts (get_or (set seats k s) i blank) (of_seat i buffer')) (sym e) (subst (λ (z : Seat). Counts z (of_seat k buffer')) (sym (get_or-set_same seats k s blank here)) (own here)))
           (λ n. subst (λ (z : Seat). Counts z (of_seat j buffer')) (sym (get_or-set_other seats k j s blank n)) (subst (Counts (get_or seats j blank)) (sym (others j n)) (b.tallied j inside)))
@@ -173,7 +173,7 @@ balanced_release seats buffer x others all b =
     (λ j n. sym (of_seat_other j x others (λ e. n (sym e))) ∙ of_seat_shuffled j buffer (x ∷ others) all)
 
 -- a trade of the buffer is of one of the seats, which has not had all its trades released
-pub held_known : (seats : List Seat) (buffer : List Trade) (x : Trade) → Has buffer x → Balanced seats buffer → (x.seat < length seats) × ((get_or seats x.seat blank).released < most_trades)
+pub held_known : (seats : List Seat) (buffer : List Trade) (x : Trade) → ContainsAt buffer x → Balanced seats buffer → (x.seat < length seats) × ((get_or seats x.seat blank).released < most_trades)
 held_known seats buffer x held b =
     let k = x.seat in
     let lt : k < length seats = all-has (λ y. y.seat < length seats) buffer x b.known held in
@@ -228,7 +228,7 @@ before_some : (n a : ℕ) → a < n → before_one n a ≡ 1
 before_some n a lt = grind (arith, nat_tests)
 
 -- where every trade is of one of the first n seats, the count is the length
-of_first_all : (n : ℕ) (xs : List Trade) → All (λ x. x.seat < n) xs → of_first n xs ≡ length xs
+of_first_all : (n : ℕ) (xs : List Trade) → AllByRecursion (λ x. x.seat < n) xs → of_first n xs ≡ length xs
 of_first_all n [] h = refl
 of_first_all n (x ∷ xs) h = let a = sum_by-cons (first_one n) x xs in let b = before_some n x.seat h.0 in let c = of_first_all n xs h.1 in omega arith
 

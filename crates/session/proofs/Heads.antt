@@ -1,6 +1,6 @@
 -- The trade at the root of the buffer.
 use Rattle.std.proofs.Common.{◌≡◌, ◌<◌, List, [], ◌∷◌, length, IfSome, Some, None, Option, sym, ap, ◌∙◌, subst, arith}
-use Rattle.std.specs.List.{ContainsAt as Has}
+use Rattle.std.specs.List.{ContainsAt}
 use Rattle.heap.specs.Calls.{Takes}
 use Rattle.heap.specs.Heaps.{AtRoot, First}
 use Rattle.records.specs.declared.trade.Trade.{Trade}
@@ -8,7 +8,7 @@ use Rattle.records.specs.Trade.{TradeUpto}
 use Rattle.session.specs.Release.{Head}
 
 -- it is in the buffer
-pub root_has : (xs : List Trade) (x : Trade) → 0 < length xs → AtRoot x xs → Has xs x
+pub root_has : (xs : List Trade) (x : Trade) → 0 < length xs → AtRoot x xs → ContainsAt xs x
 root_has [] x lt e = absurd (omega arith)
 root_has (y ∷ xs) x lt e = (0, omega arith, λ _. sym e)
 

@@ -2,7 +2,7 @@
 -- its tag and a line is free.
 use Rattle.std.specs.Prelude.{◌≡◌, ℕ, ◌+◌, ◌<◌, Bool, true, false, not, ◌&&◌, List, [], ◌∷◌, length, Ok, Err, Result, ◌==◌, slice_index_or, slice_set}
 use Rattle.std.specs.List.Sorted.{IsPermutation}
-use Rattle.std.specs.List.{AllByRecursion, ContainsAt as Has}
+use Rattle.std.specs.List.{AllByRecursion, ContainsAt}
 use Rattle.lines.specs.Pages.{Page, Written, full}
 use Rattle.records.specs.declared.line.Line.{Line}
 use Rattle.records.specs.declared.refusal.Refusal.{Refusal}
@@ -55,7 +55,7 @@ pub record Released (w : World) (line : Line) (v : World) : Type 0 where
 
 -- a trade of the buffer that none there precedes
 abbrev pub FirstIn : List Trade → Trade → Type 0
-FirstIn buffer x = Has buffer x × AllByRecursion (TradeUpto x) buffer
+FirstIn buffer x = ContainsAt buffer x × AllByRecursion (TradeUpto x) buffer
 
 -- why nothing is released: the buffer is empty (60), a seat holds its first trade up (61, which may name any that does),
 -- or the tape has no free line (62)
