@@ -7,7 +7,6 @@ use Rattle.session.specs.World.{World}
 use Rattle.order.specs.declared.call.Call.{Call}
 use Rattle.order.specs.declared.event.Event.{Event}
 use Rattle.order.specs.Booking.{BookedOver, Desk}
-use Rattle.order.specs.Law.{Law}
 use Rattle.order.specs.Run.{Run, call_of}
 
 -- these calls were made from a start, in their order, with these events, and left this

@@ -1,6 +1,6 @@
 -- Collect: the first message on the seat's reverse link is taken. A trade goes into the buffer, unless it is stray; the
 -- message's tag, a stray trade's too, becomes the seat's watermark.
-use Rattle.std.specs.Prelude.{◌≡◌, ℕ, ◌+◌, Bool, cond, not, ◌&&◌, List, [], ◌∷◌, Some, Ok, Err, MatchBool, Result, slice_set}
+use Rattle.std.specs.Prelude.{◌≡◌, ℕ, ◌+◌, not, List, [], ◌∷◌, Some, Ok, Err, MatchBool, Result, slice_set}
 use Rattle.std.specs.List.Sorted.{IsPermutation}
 use Rattle.network.specs.Network.{Net, Taken, is_waiting}
 use Rattle.records.specs.declared.message.Kind.{Kind}

@@ -1,9 +1,6 @@
-use Rattle.std.proofs.Common.{vec_items, ◌∙◌, arith, rules}
+use Rattle.std.proofs.Common.{vec_items, ◌∙◌, rules}
 use Rattle.std.proofs.lemmas.List.{take_all}
-use Rattle.lines.specs.Pages.{page}
-use Rattle.session.specs.World.{world}
 use Rattle.order.specs.declared.call.Call.TheVariants as call
-use Rattle.order.specs.Booking.{desk}
 use Rattle.order.proofs.Chains.{booked_more, calls_more, run_more}
 use Rattle.order.proofs.performing.perform.Goals as goal
 

@@ -1,4 +1,4 @@
-use Rattle.std.proofs.Common.{◌≡◌, [], sym, refl, subst, rules}
+use Rattle.std.proofs.Common.{◌≡◌, sym, refl, subst}
 use Rattle.std.proofs.lemmas.List.{nil_from_length}
 use Rattle.heap.specs.Held.{held}
 use Rattle.session.specs.declared.state.State.{State}
