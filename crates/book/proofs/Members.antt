@@ -1,4 +1,4 @@
--- Members of lists, and what holds of each, where the shelf has it in another form.
+-- Members of lists, and what holds of each, where the library has it in another form.
 use Rattle.std.proofs.Common.{◌≡◌, ◌⊎◌, List, [], ◌∷◌, ◌++◌, sym, refl, subst, inl, inr, ⊎_elim}
 use Rattle.std.specs.List.Sorted.{IsPermutation}
 use Rattle.std.specs.List.{AllByRecursion, ContainsAt}

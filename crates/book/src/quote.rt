@@ -55,7 +55,7 @@ pub trait Quote: Ranked {
     fn crosses(&self, price: u32) -> bool
         ensures { result ≡ kind.meets price (kind.resting self.now).price };
 
-    // Which is all that the matching needs to know of it.
+    // The kind is lawful, which is all that the matching needs to know of it.
     ghost lawful: { Lawful kind };
 
     // The heap ranks as the kind says.

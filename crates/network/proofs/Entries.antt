@@ -45,10 +45,10 @@ traced_following ds at k b l h = fun_ext (λ j. fun_ext (λ n. go j n (eqb j k) 
     go j n false (inr e) = ap (λ (t : ℕ). entry ds (t + n)) (get_or-set_other at k j b 0 e.1)
 
 -- a list of equal elements, also past its end
-pub get_d_replicate : {X : Type 0} (n : ℕ) (x : X) (k : ℕ) → get_or (replicate n x) k x ≡ x
-get_d_replicate zero x k = refl
-get_d_replicate (suc n) x zero = refl
-get_d_replicate (suc n) x (suc k) = get_d_replicate n x k
+pub get_or_replicate : {X : Type 0} (n : ℕ) (x : X) (k : ℕ) → get_or (replicate n x) k x ≡ x
+get_or_replicate zero x k = refl
+get_or_replicate (suc n) x zero = refl
+get_or_replicate (suc n) x (suc k) = get_or_replicate n x k
 
 -- links that stand at the start
 pub traced_start : (ds at : List ℕ) → ((k : ℕ) → get_or at k 0 ≡ 0) → traced_delay ds at ≡ (λ _ n. entry ds n)

@@ -15,7 +15,7 @@ use Rattle.network.specs.Delays.{Next}
 use Rattle.network.specs.Network.{Link, limit, capped, has_room, arrived, is_waiting, earliest, Sent, Taken}
 use Rattle.network.specs.Ring.{ring_size, place, blank, ring_sent, ring_taken}
 use Rattle.network.specs.Rings.{reads, pair_of, ring_link, delayed, ringed, unused}
-use Rattle.network.proofs.Entries.{get_d_replicate}
+use Rattle.network.proofs.Entries.{get_or_replicate}
 
 one_at : {X : Type 0} (xs : List X) (j : ℕ) (d : X) → j < length xs → take 1 (drop j xs) ≡ get_or xs j d ∷ []
 one_at xs j d h = ap (take 1) (drop-cons xs j d h)
@@ -234,4 +234,4 @@ ringed_fresh {R} xs delay longest =
     let c = ring_size (length xs) in
     let z : min 0 (ring_size (length xs)) ≡ 0 = omega arith in
     ap (λ (ls : ℕ → Link R). record { links = ls; capacity = c; longest = capped longest; formula = delayed delay })
-    (fun_ext (λ k. ap (ring_link xs c k) (get_d_replicate 16 blank k) ∙ ap (λ n. record { pairs = map pair_of (reads xs (place c k 0) n); last = None }) z))
+    (fun_ext (λ k. ap (ring_link xs c k) (get_or_replicate 16 blank k) ∙ ap (λ n. record { pairs = map pair_of (reads xs (place c k 0) n); last = None }) z))

@@ -9,16 +9,16 @@ use lines::Lines;
 use records::{Line, Trade};
 
 // A released trade that is still to be booked or rejected. It can't be let go: a program in which one is dropped is
-// refused.
+// refused, since places are counted from 1.
 pub struct Ticket {
     place: u64,
     trade: Trade,
 }
 
 impl Drop for Ticket {
-    // Nothing meets this: a ticket must be spent.
+    // No ticket that a release hands out meets this: it must be spent.
     fn drop(self)
-        requires { ⊥ }
+        requires { self.place ≡ 0 }
     {
         let Ticket { place: _, trade: _ } = self;
     }

@@ -1,6 +1,6 @@
 // The races: for each tick, the orders that answered it, by their place on the tape. All of it is read off the events.
 ghost use Rattle.std.specs.Prelude.{◌≡◌, ◌-◌, IfSome};
-ghost use Rattle.order.specs.History.{holds as holds-point};
+ghost use Rattle.order.specs.History.{holds as holds_point};
 ghost use Rattle.showcase.specs.Columns.{rising, value_in};
 ghost use Rattle.showcase.specs.Race.{first_answer, handed_out, nth_answer, sent_off, taken_off};
 
@@ -43,7 +43,7 @@ impl Entry {
 
 // Whether a batch holds a point.
 fn holds(batch: &Batch, point: u64) -> bool
-    ensures { result ≡ holds-point batch.now point }
+    ensures { result ≡ holds_point batch.now point }
 {
     let first = u64::from(batch.first);
     first <= point && point < first + u64::from(batch.count)
