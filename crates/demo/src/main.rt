@@ -1,4 +1,4 @@
-// A run through what stands so far, in two parts: market data on its way to the members, and orders in the book.
+// A run through the lower layers, in two parts: market data on its way to the members, and orders in the book.
 
 #![tactic(auto)]
 

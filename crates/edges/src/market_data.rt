@@ -39,7 +39,8 @@ fn a_session_takes_65_536_points(rt: HostRuntime) -> Result<(), Fail> {
             (Seal(60_000), Number(1024)),
             (Point(60_000), Refused(21)),
         ],
-    )
+    );
+    Ok(())
 }
 
 #[test]

@@ -144,5 +144,6 @@ fn a_seat_has_a_million_trades(rt: HostRuntime) -> Result<(), Fail> {
             (Submits(6_000_000, 0, 16), Number(1_000_000)),
             (Submit(6_000_000, 0), RefusedAt(43, 0)),
         ],
-    )
+    );
+    Ok(())
 }

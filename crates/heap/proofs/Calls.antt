@@ -1,7 +1,7 @@
 -- What the calls of a heap make of its list: an element at the end, the last one at the root, a slice written back.
 use Rattle.std.proofs.Common.{◌≡◌, ℕ, ◌+◌, ◌<◌, ◌≤◌, List, [], ◌∷◌, ◌++◌, length, get_or, take, Some, None, Option, sym, refl, ap, ◌∙◌, subst, arith, take_all, Bor}
-use lib.ListN.{get_or-append}
-use lib.Seq.{take-append-le}
+use Rattle.std.proofs.Math.ListN.{get_or-append}
+use Rattle.std.proofs.lemmas.List.{take-append-le}
 use Rattle.std.specs.List.{swap_remove}
 use Rattle.std.specs.Slice.{IsGetResult}
 use Rattle.std.specs.List.Sorted.{IsPermutation}

@@ -1,7 +1,7 @@
 -- Delays by link and by recorded list.
 use Rattle.std.proofs.Common.{◌≡◌, ℕ, zero, suc, ◌+◌, ◌%◌, ◌<◌, ◌≤◌, max, Bool, true, false, cond, eqb, ◌⊎◌, List, [], ◌∷◌, length, get_or, drop, set, replicate, sym, refl, ap, ◌∙◌, inl, inr, ⊎_elim, arith}
-use mathlib.Core.Path.{fun_ext}
-use native.Mathlib.Nat.{mod-add-mod}
+use Rattle.std.proofs.Math.Path.{fun_ext}
+use Rattle.std.proofs.Math.Nat.{mod-add-mod}
 use Rattle.std.proofs.lemmas.List.{get_or-set_same, get_or-set_other, get_or_past, drop_more, drop_all}
 use Rattle.std.proofs.lemmas.Bool.Decides.{eqb_tells}
 use Rattle.network.specs.Delays.{greatest, entry, traced_delay}
@@ -45,10 +45,10 @@ traced_following ds at k b l h = fun_ext (λ j. fun_ext (λ n. go j n (eqb j k) 
     go j n false (inr e) = ap (λ (t : ℕ). entry ds (t + n)) (get_or-set_other at k j b 0 e.1)
 
 -- a list of equal elements, also past its end
-pub get_or_replicate : {X : Type 0} (n : ℕ) (x : X) (k : ℕ) → get_or (replicate n x) k x ≡ x
-get_or_replicate zero x k = refl
-get_or_replicate (suc n) x zero = refl
-get_or_replicate (suc n) x (suc k) = get_or_replicate n x k
+pub get_or_replicate_everywhere : {X : Type 0} (n : ℕ) (x : X) (k : ℕ) → get_or (replicate n x) k x ≡ x
+get_or_replicate_everywhere zero x k = refl
+get_or_replicate_everywhere (suc n) x zero = refl
+get_or_replicate_everywhere (suc n) x (suc k) = get_or_replicate_everywhere n x k
 
 -- links that stand at the start
 pub traced_start : (ds at : List ℕ) → ((k : ℕ) → get_or at k 0 ≡ 0) → traced_delay ds at ≡ (λ _ n. entry ds n)

@@ -1,11 +1,9 @@
 -- Rings in one list of slots: where their records lie, and what a send and a take leave of them.
 use Rattle.std.proofs.Common.{◌≡◌, ℕ, zero, suc, ◌+◌, ◌-◌, ◌*◌, ◌/◌, ◌%◌, ◌<◌, ◌≤◌, min, true, false, ltb, leb, List, [], ◌∷◌, ◌++◌, map, length, get_or, take, drop, set, replicate, Some, None, Option, sym, refl, ap, ◌∙◌, ⊎_elim, append_assoc, append-nil, add-mul, add-one, arith, length-append, length-drop, length-set, length-take, drop-cons}
-use mathlib.Core.List.{map-append}
-use mathlib.Core.Path.{fun_ext}
-use native.Mathlib.Nat.{mod-add-mod}
-use lib.ListN.{length-map}
+use Rattle.std.proofs.lemmas.List.{map-append, length-map, get_or-set_same, get_or-set_other}
+use Rattle.std.proofs.Math.Path.{fun_ext}
+use Rattle.std.proofs.Math.Nat.{mod-add-mod}
 use Rattle.std.proofs.lemmas.Nat.{div-add-mod', mod_below, mul-le, mul-add-lt, div-mul-add}
-use Rattle.std.proofs.lemmas.List.{get_or-set_same, get_or-set_other}
 use Rattle.std.proofs.lemmas.Bool.{cases_lt}
 use Rattle.std.proofs.lemmas.Bool.Decides.{nat_tests}
 use Rattle.std.specs.Option.{option_map}
@@ -15,7 +13,7 @@ use Rattle.network.specs.Delays.{Next}
 use Rattle.network.specs.Network.{Link, limit, capped, has_room, arrived, is_waiting, earliest, Sent, Taken}
 use Rattle.network.specs.Ring.{ring_size, place, blank, ring_sent, ring_taken}
 use Rattle.network.specs.Rings.{reads, pair_of, ring_link, delayed, ringed, unused}
-use Rattle.network.proofs.Entries.{get_or_replicate}
+use Rattle.network.proofs.Entries.{get_or_replicate_everywhere}
 
 one_at : {X : Type 0} (xs : List X) (j : ℕ) (d : X) → j < length xs → take 1 (drop j xs) ≡ get_or xs j d ∷ []
 one_at xs j d h = ap (take 1) (drop-cons xs j d h)
@@ -234,4 +232,4 @@ ringed_fresh {R} xs delay longest =
     let c = ring_size (length xs) in
     let z : min 0 (ring_size (length xs)) ≡ 0 = omega arith in
     ap (λ (ls : ℕ → Link R). record { links = ls; capacity = c; longest = capped longest; formula = delayed delay })
-    (fun_ext (λ k. ap (ring_link xs c k) (get_or_replicate 16 blank k) ∙ ap (λ n. record { pairs = map pair_of (reads xs (place c k 0) n); last = None }) z))
+    (fun_ext (λ k. ap (ring_link xs c k) (get_or_replicate_everywhere 16 blank k) ∙ ap (λ n. record { pairs = map pair_of (reads xs (place c k 0) n); last = None }) z))

@@ -1,7 +1,7 @@
 -- What every run keeps of the points: in which batch each is, when it reached a seat, and that deliveries keep their
 -- distance.
 use Rattle.std.proofs.Common.{◌≡◌, ℕ, ◌+◌, ◌-◌, ◌<◌, ◌≤◌, Bool, true, false, cond, ◌&&◌, eqb, leb, List, [], ◌∷◌, length, get_or, set, Ok, Err, sym, refl, ap, ◌∙◌, subst, ⊎_elim, true≢false, arith}
-use mathlib.Core.Path.{fun_ext}
+use Rattle.std.proofs.Math.Path.{fun_ext}
 use Rattle.std.specs.List.{AllByRecursion}
 use Rattle.std.proofs.ByRecursion.{All-weaker, All-push, all_shuffled}
 use Rattle.std.proofs.lemmas.Bool.{cases_lt, leb-false}

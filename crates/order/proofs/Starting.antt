@@ -1,6 +1,6 @@
 -- What a fresh session has: no points, new seats and an empty buffer.
 use Rattle.std.proofs.Common.{◌≡◌, ℕ, ◌<◌, ◌≤◌, [], length, get_or, ap, ◌∙◌, arith}
-use lib.ListN.{length-replicate, get_or-replicate}
+use Rattle.std.proofs.lemmas.List.{length-replicate, get_or-replicate}
 use Rattle.records.specs.Market.{no_points}
 use Rattle.records.specs.Seat.{blank}
 use Rattle.session.specs.Opening.{Fresh, most_seats}

@@ -1,6 +1,5 @@
 use Rattle.std.proofs.Common.{rules}
-use lib.ListN.{length-replicate}
-use Rattle.std.proofs.lemmas.List.{nil_from_length, replicate_more}
+use Rattle.std.proofs.lemmas.List.{length-replicate, nil_from_length, replicate_more}
 use Rattle.records.specs.Seat.{blank}
 use Rattle.session.proofs.layout.calls.seated.Goals as goal
 
