@@ -1,8 +1,8 @@
 -- The first order of a side: a price crosses it or none.
-use Rattle.std.proofs.Common.{◌≡◌, ℕ, ◌<◌, Bool, true, false, List, [], ◌∷◌, length, get_or, sym, refl, ap, ◌∙◌, subst, ⊎_elim, arith}
+use Rattle.std.proofs.Common.{◌≡◌, ℕ, ◌<◌, Bool, true, false, List, [], ◌∷◌, length, get_or, sym, refl, ap, ◌∙◌, ⊎_elim, arith}
 use Rattle.std.specs.List.Sorted.{IsPermutation}
-use Rattle.std.specs.List.{AllByRecursion, ContainsAt}
-use Rattle.std.proofs.ByRecursion.{All-weaker, has_get_or}
+use Rattle.std.specs.List.{AllByRecursion}
+use Rattle.std.proofs.ByRecursion.{All-weaker}
 use Rattle.std.proofs.lemmas.List.Sorted.{IsPermutation-sym}
 use Rattle.std.proofs.lemmas.Bool.{both_ways, cases_Bool, cond-false, cond-true}
 use Rattle.std.proofs.Permutation.{every_shuffled}
@@ -44,7 +44,3 @@ module _ {X : Type 0} (k : Kind X) (laws : Lawful k) (p : ℕ) where
   first_crosses x xs others s h some = ⊎_elim (λ e. e)
       (λ e. absurd (both_ways (any_crosses k p xs) (none_crosses k p xs (every_shuffled (Misses k p) (x ∷ others) xs (IsPermutation-sym xs (x ∷ others) s) (e, misses_all x others h e))) some))
       (cases_Bool (k.meets p (k.resting x).price))
-
--- the element at the root is a member, whatever default it is read at
-pub root_has : {X : Type 0} (xs : List X) (x y : X) → 0 < length xs → x ≡ get_or xs 0 x → y ≡ x → ContainsAt xs y
-root_has {X} xs x y some at is = subst (ContainsAt xs) (sym at ∙ sym is) (has_get_or xs 0 x some)

@@ -7,7 +7,6 @@ use Rattle.std.proofs.lemmas.List.Sorted.{sum_by-IsPermutation}
 use Rattle.std.proofs.lemmas.List.Sums.{get_or-le-sum_by, sum_by-cons}
 use Rattle.std.proofs.lemmas.Bool.{both_ways, cases_Bool, lt-leb}
 use Rattle.std.proofs.lemmas.Bool.Decides.{nat_tests, when_false, when_true}
-use Rattle.heap.specs.Held.{held}
 use Rattle.lines.specs.Pages.{Page, Written, full}
 use Rattle.lines.proofs.Writing.{one_page, within}
 use Rattle.book.specs.declared.order.Side.{Side}
@@ -187,10 +186,10 @@ module _ {X Y : Type 0} (there : Kind X) (here : Kind Y) (laws : Lawful there) (
 -- of two outcomes of an accepted order each part is the same
 by_side : (s : Side) (b b' b'' : Book) (o : Order) (p p' p'' : Page Fill) (fills fills' : List Fill) (r r'' : Booked) → b'.taken ≡ b''.taken → Written p fills p' → Written p fills' p'' → BySide s b o (full p') fills b' r → BySide s b o (full p'') fills' b'' r'' → Alike b' p' r b'' p'' r''
 by_side side.Buy b b' b'' o p p' p'' fills fills' r r'' n w w' d d' =
-    let h = one_deal resting_sells resting_buys lawful_sells o b.taken (held b.sells) (held b.buys) p b.sells_numbered p' p'' (held b'.sells) (held b''.sells) (held b'.buys) (held b''.buys) fills fills' r r'' w w' d.dealt d'.dealt in
+    let h = one_deal resting_sells resting_buys lawful_sells o b.taken b.sells b.buys p b.sells_numbered p' p'' b'.sells b''.sells b'.buys b''.buys fills fills' r r'' w w' d.dealt d'.dealt in
     record { buys = h.1; sells = h.0; taken = n; list = h.2; booked = h.3 }
 by_side side.Sell b b' b'' o p p' p'' fills fills' r r'' n w w' d d' =
-    let h = one_deal resting_buys resting_sells lawful_buys o b.taken (held b.buys) (held b.sells) p b.buys_numbered p' p'' (held b'.buys) (held b''.buys) (held b'.sells) (held b''.sells) fills fills' r r'' w w' d.dealt d'.dealt in
+    let h = one_deal resting_buys resting_sells lawful_buys o b.taken b.buys b.sells p b.buys_numbered p' p'' b'.buys b''.buys b'.sells b''.sells fills fills' r r'' w w' d.dealt d'.dealt in
     record { buys = h.0; sells = h.1; taken = n; list = h.2; booked = h.3 }
 
 -- what is taken by the rules is settled: they allow no other outcome
@@ -207,8 +206,8 @@ settled b o p b' p' r t = record {
       let y = when_false _ _ e u.took in
       let same : b' ≡ b'' = x.same ∙ sym y.same in
       record {
-        buys = same_refl _ _ (ap (λ (z : Book). held z.buys) same);
-        sells = same_refl _ _ (ap (λ (z : Book). held z.sells) same);
+        buys = same_refl _ _ (ap (λ (z : Book). z.buys) same);
+        sells = same_refl _ _ (ap (λ (z : Book). z.sells) same);
         taken = ap (λ (z : Book). z.taken) same;
         list = one_page p p' p'' t.fills u.fills (x.none ∙ sym y.none) t.written u.written;
         booked = x.dropped ∙ sym y.dropped;

@@ -1,5 +1,5 @@
 -- What always holds of the two sides of a book: no buy crosses a sell, and arrival numbers tell the orders of a side apart.
-use Rattle.std.specs.Prelude.{ℕ, ◌<◌, ◌≤◌, cond, List, count_by, nat_eq, nat_lt}
+use Rattle.std.specs.Prelude.{ℕ, ◌<◌, ◌≤◌, if◌then◌else◌, List, count_by, nat_eq, nat_lt}
 use Rattle.std.specs.List.{ContainsAt}
 use Rattle.book.specs.declared.quote.Buy.{Buy}
 use Rattle.book.specs.declared.quote.Sell.{Sell}
@@ -15,4 +15,4 @@ Apart bs ss = (b : Buy) (s : Sell) → ContainsAt bs b → ContainsAt ss s → b
 
 -- at most one order of a side has a given number, and none has a number that was not given yet
 abbrev pub Numbered : {X : Type 0} → Kind X → (given : ℕ) → List X → Type 0
-Numbered k given xs = (n : ℕ) → count_by (λ x. nat_eq (k.resting x).arrival n) xs ≤ cond (nat_lt n given) 1 0
+Numbered k given xs = (n : ℕ) → count_by (λ x. nat_eq (k.resting x).arrival n) xs ≤ (if nat_lt n given then 1 else 0)

@@ -1,6 +1,6 @@
 -- How an incoming order meets the resting orders of the other side, and what becomes of what is left.
 -- It meets the longest run of the best that cross it, in their rank, and takes its quantity off their front.
-use Rattle.std.specs.Prelude.{◌≡◌, ℕ, ◌+◌, ◌-◌, ◌<◌, Bool, false, cond, not, ◌&&◌, List, [], ◌∷◌, ◌++◌, length, MatchBool, nat_lt}
+use Rattle.std.specs.Prelude.{◌≡◌, ℕ, ◌+◌, ◌-◌, ◌<◌, Bool, false, if◌then◌else◌, not, ◌&&◌, List, [], ◌∷◌, ◌++◌, length, MatchBool, nat_lt}
 use Rattle.std.specs.List.Sorted.{IsPermutation}
 use Rattle.std.specs.List.{AllByRecursion}
 use Rattle.lines.specs.Pages.{Page, full, Written}
@@ -55,7 +55,7 @@ rests left crossed held room = nat_lt 0 left && (not crossed && nat_lt held room
 
 -- an order's quantity joins its side where it stays, and the side is as it was where not
 pub record Rested {Y : Type 0} (k : Kind Y) (o : Order) (arrival left : ℕ) (stays : Bool) (own own' : List Y) (rested : ℕ) : Type 0 where
-  pub quantity : rested ≡ cond stays left 0
+  pub quantity : rested ≡ (if stays then left else 0)
   pub side : MatchBool stays (IsPermutation (k.quoted (at_rest o left arrival) ∷ own) own') (own' ≡ own)
 
 -- of what is left, by whether it rests

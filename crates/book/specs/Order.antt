@@ -1,7 +1,15 @@
--- What rests of an order: its party and price, the quantity that is left, and the book's own arrival number.
-use Rattle.std.specs.Prelude.{ℕ, ◌-◌}
+-- How a side is called, and what rests of an order: its party and price, the quantity that is left, and the book's own
+-- arrival number.
+use Rattle.std.specs.Prelude.{ℕ, ◌-◌, List, codes}
+use Rattle.book.specs.declared.order.Side.{Side}
+use Rattle.book.specs.declared.order.Side.TheVariants.{Buy, Sell}
 use Rattle.book.specs.declared.order.Order.{Order}
 use Rattle.book.specs.declared.order.Resting.{Resting}
+
+-- what a side is printed as
+abbrev pub side_name : Side → List ℕ
+side_name Buy = codes "buy"
+side_name Sell = codes "sell"
 
 -- what is left of an order, at rest
 abbrev pub at_rest : Order → (left arrival : ℕ) → Resting

@@ -1,19 +1,20 @@
 -- One side of the book, as the list of its quotes in any order: which is the best, whether one crosses a price, and one
 -- fill with the best.
-use Rattle.std.specs.Prelude.{◌≡◌, ℕ, ◌+◌, Bool, true, false, cond, List, [], ◌∷◌, ◌++◌, Option, MatchOption, nat_lt}
+use Rattle.std.specs.Prelude.{◌≡◌, ℕ, ◌+◌, Bool, true, false, if◌then◌else◌, List, [], ◌∷◌, ◌++◌, Option, MatchOption, nat_lt}
 use Rattle.std.specs.List.Sorted.{IsPermutation}
 use Rattle.std.specs.List.{AllByRecursion, ContainsAt}
-use Rattle.heap.specs.Heaps.{Upto, Heaped}
+use Rattle.heap.specs.Contents.{Contents}
 use Rattle.book.specs.declared.order.Order.{Order}
 use Rattle.book.specs.declared.order.Resting.{Resting}
 use Rattle.book.specs.declared.fill.Fill.{Fill}
 use Rattle.book.specs.Order.{less}
 use Rattle.book.specs.Fill.{fill_of}
 use Rattle.book.specs.Quote.{Kind}
+use Rattle.book.specs.Book.{room}
 
--- what a side's heap holds stands by rank
-abbrev pub Stood : {X K : Type 0} → (X → K) → (K → K → Bool) → List X → Type 0
-Stood key upto xs = Heaped (Upto key upto) xs
+-- a side as what its heap holds, and may hold
+abbrev pub side : {X : Type 0} → List X → Contents X
+side xs = record { items = xs; bound = room }
 
 module _ {X : Type 0} (k : Kind X) where
   -- the first ranks before the second, or they rank alike
@@ -31,7 +32,7 @@ module _ {X : Type 0} (k : Kind X) where
   -- a price crosses some quote
   abbrev pub any_crosses : ℕ → List X → Bool
   any_crosses price [] = false
-  any_crosses price (x ∷ xs) = cond (k.meets price (k.resting x).price) true (any_crosses price xs)
+  any_crosses price (x ∷ xs) = if k.meets price (k.resting x).price then true else any_crosses price xs
 
   -- the best order rests on the side and ranks before all others there; there is none exactly when the side is empty
   abbrev pub Best : List X → Option Resting → Type 0
@@ -44,7 +45,7 @@ module _ {X : Type 0} (k : Kind X) where
 
   -- what rests of one order once a quantity is taken off it
   abbrev pub left_over : ℕ → Resting → List X
-  left_over taken x = cond (nat_lt taken x.quantity) (k.quoted (less taken x) ∷ []) []
+  left_over taken x = if nat_lt taken x.quantity then k.quoted (less taken x) ∷ [] else []
 
   -- one fill, with the best of the resting orders; what is left of that one rests again
   pub record Meets (o : Order) (left : ℕ) (resting : List X) (f : Fill) (resting' : List X) : Type 0 where

@@ -4,7 +4,7 @@ ghost use Rattle.book.specs.Fill.{fill_of};
 use crate::order::{Order, Party, Resting, Side};
 
 // A quantity that changed hands, at the resting order's price.
-#[derive(Clone, Copy)]
+#[derive(Clone, Copy, Debug, Default, PartialEq, Eq)]
 pub struct Fill {
     pub price: u32,
     pub quantity: u32,

@@ -1,22 +1,39 @@
 ghost use Rattle.std.specs.Prelude.{◌≡◌, ◌<◌};
 ghost use Rattle.book.specs.Order.{at_rest, less};
 
+use std::fmt;
+
 // What an order is for.
-#[derive(Clone, Copy)]
+#[derive(Clone, Copy, Debug, Default, PartialEq, Eq)]
 pub enum Side {
+    #[default]
     Buy,
     Sell,
 }
 
+impl fmt::Display for Side {
+    ghost use Rattle.std.specs.Prelude.{Some};
+    ghost use Rattle.book.specs.Order.{side_name};
+
+    ghost output = { λ side. Some (side_name side) };
+
+    fn fmt<W: fmt::Write>(&self, f: &mut fmt::Formatter<W>) -> fmt::Result {
+        f.pad(match *self {
+            Side::Buy => "buy",
+            Side::Sell => "sell",
+        })
+    }
+}
+
 // Whose order it is, and which of theirs.
-#[derive(Clone, Copy)]
+#[derive(Clone, Copy, Debug, Default, PartialEq, Eq)]
 pub struct Party {
     pub seat: usize,
     pub serial: u32,
 }
 
 // An incoming order.
-#[derive(Clone, Copy)]
+#[derive(Clone, Copy, Debug, PartialEq, Eq)]
 pub struct Order {
     pub party: Party,
     pub side: Side,
@@ -25,7 +42,7 @@ pub struct Order {
 }
 
 // What is left of an order, at rest on its side, with the book's own arrival number.
-#[derive(Clone, Copy)]
+#[derive(Clone, Copy, Debug, PartialEq, Eq)]
 pub struct Resting {
     pub party: Party,
     pub price: u32,
@@ -34,12 +51,24 @@ pub struct Resting {
 }
 
 // What became of an order's quantity, and how many fills there were.
-#[derive(Clone, Copy)]
+#[derive(Clone, Copy, Debug, Default, PartialEq, Eq)]
 pub struct Booked {
     pub filled: u32,
     pub rested: u32,
     pub dropped: u32,
     pub fills: usize,
+}
+
+impl Booked {
+    // All of a quantity is dropped.
+    pub fn all_dropped(quantity: u32) -> Booked
+        ensures { result ≡ record { filled = 0; rested = 0; dropped = quantity; fills = 0 } }
+    {
+        Booked {
+            dropped: quantity,
+            ..Booked::default()
+        }
+    }
 }
 
 impl Order {

@@ -1,24 +1,25 @@
 // A quote is a resting order of a known side. A side's quotes name their rank and the incoming prices that they cross;
-// all else is written once, for both sides.
+// what a side does is written once, for both.
 ghost use Rattle.std.specs.Prelude.{◌≡◌};
-ghost use Rattle.book.specs.Quote.{Kind, Lawful, buy_key, buy_upto, resting_buys, resting_sells, sell_key, sell_upto};
+ghost use Rattle.book.specs.Quote.{Kind, Lawful, buy_key, buy_upto, key_of, resting_buys, resting_sells, sell_key, sell_upto};
 ghost use Rattle.std.proofs.Common.{rules};
 
 use crate::order::Resting;
 use heap::Ranked;
+use std::cmp::Reverse;
 
 // By price first, and then by arrival.
-#[derive(Clone, Copy)]
+#[derive(Clone, Copy, PartialEq, Eq, PartialOrd, Ord)]
 pub struct PriceKey {
     pub price: u32,
     pub arrival: u32,
 }
 
-impl PriceKey {
-    // What a resting order ranks by.
-    fn of(order: &Resting) -> PriceKey
-        ensures { (result.price ≡ order.now.price) × (result.arrival ≡ order.now.arrival) }
-    {
+// What a resting order ranks by.
+impl From<Resting> for PriceKey {
+    ghost from_gives = { λ order key. key ≡ key_of order };
+
+    fn from(order: Resting) -> PriceKey {
         PriceKey {
             price: order.price,
             arrival: order.arrival,
@@ -26,7 +27,9 @@ impl PriceKey {
     }
 }
 
-// A resting order that buys.
+// A resting order that buys. Buys and sells differ in their order and in the prices that cross them; one type with a marker
+// for its side would save three bodies of a line, for a trait, two marker types and a `PhantomData`. What a side does is
+// written once, in `Quotes`.
 #[derive(Clone, Copy)]
 pub struct Buy {
     pub order: Resting,
@@ -72,14 +75,12 @@ impl Ranked for Buy {
     ghost lawful = { Prim.search rules };
 
     fn key_of(&self) -> PriceKey {
-        PriceKey::of(&self.order)
+        PriceKey::from(self.order)
     }
 
     fn precedes(&self, other: &Buy) -> bool {
-        if self.order.price != other.order.price {
-            return self.order.price > other.order.price;
-        }
-        self.order.arrival <= other.order.arrival
+        let (own, next) = (self.key_of(), other.key_of());
+        (Reverse(own.price), own.arrival) <= (Reverse(next.price), next.arrival)
     }
 }
 
@@ -93,14 +94,11 @@ impl Ranked for Sell {
     ghost lawful = { Prim.search rules };
 
     fn key_of(&self) -> PriceKey {
-        PriceKey::of(&self.order)
+        PriceKey::from(self.order)
     }
 
     fn precedes(&self, other: &Sell) -> bool {
-        if self.order.price != other.order.price {
-            return self.order.price < other.order.price;
-        }
-        self.order.arrival <= other.order.arrival
+        self.key_of() <= other.key_of()
     }
 }
 

@@ -1,64 +1,93 @@
-// What is asked of one side, and one fill with its first order.
-ghost use Rattle.std.specs.Prelude.{◌≡◌, ◌<◌, ◌++◌, length};
+// One side of the book: its resting orders, what is asked of them, and one fill with the first.
+ghost use Rattle.std.specs.Prelude.{◌≡◌, ◌<◌, [], ◌++◌, length, IfOk};
 ghost use Rattle.std.specs.List.Sorted.{IsPermutation};
-ghost use Rattle.heap.specs.Held.{held, bound};
-ghost use Rattle.book.specs.Side.{Best, MeetsBest, Stood, any_crosses, left_over};
+ghost use Rattle.heap.specs.Calls.{Adds};
+ghost use Rattle.book.specs.Book.{room};
+ghost use Rattle.book.specs.Side.{Best, MeetsBest, any_crosses, left_over, side};
 
 use crate::fill::{Fill, fill_of};
 use crate::order::{Order, Resting};
 use crate::quote::Quote;
 use heap::Heap;
+use std::alloc::{AllocError, Global};
+use std::marker::Model;
 
-// The first order of a side.
-pub(crate) fn best<S: Quote>(side: &Heap<S>) -> Option<Resting>
-    requires { Stood S.Ranked.key S.Ranked.upto (held side.now) }
-    ensures { Best S.Quote.kind (held side.now) result }
-{
-    match side.peek() {
-        Some(first) => Some(first.order()),
-        None => None,
+// How many resting orders a side holds at most.
+const ROOM: usize = 256;
+
+// The resting orders of a side, by rank.
+#[derive(Drop)]
+pub(crate) struct Quotes<S: Quote> {
+    heap: Heap<S>,
+}
+
+// Contracts see the quotes, the first of them at the front. There is always room for so many as a side may hold.
+impl<S: Quote> Model for Quotes<S> {
+    ghost use Rattle.std.specs.Prelude.{◌≡◌, List};
+    ghost use Rattle.book.specs.Book.{room};
+
+    ghost Value = { List S };
+
+    ghost view = { λ q. q.heap.items };
+
+    ghost invariant = { λ q. q.heap.bound ≡ room };
+}
+
+impl<S: Quote> Quotes<S> {
+    // A side on which nothing rests, with all the memory that it will ever need.
+    pub(crate) fn new(heap: Global) -> Result<Quotes<S>, AllocError>
+        ensures { IfOk result (λ q. q ≡ []) }
+    {
+        let heap = Heap::with_room(heap, ROOM)?;
+        Ok(Quotes { heap })
+    }
+
+    // The first order.
+    pub(crate) fn best(&self) -> Option<Resting>
+        ensures { Best S.Quote.kind self.now result }
+    {
+        Some(self.heap.peek()?.order())
+    }
+
+    // Whether some order crosses a price: the first does, or none.
+    pub(crate) fn crossed(&self, price: u32) -> bool
+        ensures { result ≡ any_crosses S.Quote.kind price self.now }
+    {
+        match self.heap.peek() {
+            Some(first) => first.crosses(price),
+            None => false,
+        }
     }
 }
 
-// Whether some order of a side crosses a price: the first does, or none.
-pub(crate) fn crossed<S: Quote>(side: &Heap<S>, price: u32) -> bool
-    requires { Stood S.Ranked.key S.Ranked.upto (held side.now) }
-    ensures { result ≡ any_crosses S.Quote.kind price (held side.now) }
-{
-    match side.peek() {
-        Some(first) => first.crosses(price),
-        None => false,
+impl<S: Quote + Drop> Quotes<S> {
+    // Takes a quote in, or hands it back where the side holds as many as it may.
+    pub(crate) fn add(&mut self, quote: S) -> Result<(), S>
+        ensures { Adds (side self.old) quote result (side self.new) }
+    {
+        self.heap.add(quote)
     }
-}
 
-// Puts back what is left of a resting order once `taken` of it is gone.
-fn put_back<S: Quote + Drop>(side: &mut Heap<S>, resting: Resting, taken: u32)
-    requires { length (held side.old) < bound side.old }
-    ensures items { IsPermutation (left_over S.Quote.kind taken resting ++ held side.old) (held side.new) }
-    ensures stood { Stood S.Ranked.key S.Ranked.upto (held side.old) → Stood S.Ranked.key S.Ranked.upto (held side.new) }
-    ensures limit { bound side.new ≡ bound side.old }
-{
-    if taken < resting.quantity {
-        let _ = side.add(S::quote(resting.less(taken)));
+    // Puts back what is left of a resting order once `taken` of it is gone.
+    fn put_back(&mut self, resting: Resting, taken: u32)
+        requires { length self.old < room }
+        ensures { IsPermutation (left_over S.Quote.kind taken resting ++ self.old) self.new }
+    {
+        if taken < resting.quantity {
+            let _ = self.add(S::quote(resting.less(taken)));
+        }
     }
-}
 
-// Meets the first order of a side where it crosses; what is left of that one rests again.
-pub(crate) fn fill_first<S: Quote + Drop>(
-    side: &mut Heap<S>,
-    order: &Order,
-    left: u32,
-) -> Option<Fill>
-    requires { Stood S.Ranked.key S.Ranked.upto (held side.old) }
-    ensures fill { MeetsBest S.Quote.kind order.now left (held side.old) result (held side.new) }
-    ensures stood { Stood S.Ranked.key S.Ranked.upto (held side.new) }
-    ensures limit { bound side.new ≡ bound side.old }
-{
-    if !crossed(side, order.price) {
-        return None;
+    // Meets the first order where it crosses; what is left of that one rests again.
+    pub(crate) fn fill_first(&mut self, order: &Order, left: u32) -> Option<Fill>
+        ensures { MeetsBest S.Quote.kind order.now left self.old result self.new }
+    {
+        if !self.crossed(order.price) {
+            return None;
+        }
+        let first = self.heap.take()?;
+        let resting = first.order();
+        self.put_back(resting, left);
+        Some(fill_of(order, left, &resting))
     }
-    let first = side.take()?;
-    let resting = first.order();
-    put_back(side, resting, left);
-    Some(fill_of(order, left, &resting))
 }

@@ -1,5 +1,4 @@
-pub mod OffsetClock
-pub mod Reading
-pub mod SplitClock
+pub mod Hands
+pub mod Readings
 pub mod StopClock
 pub mod Turns

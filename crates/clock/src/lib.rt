@@ -5,13 +5,15 @@
 
 #![tactic(auto)]
 
-mod offset_clock;
+mod clock;
+mod hand;
+mod offset_reading;
 mod reading;
-mod split_clock;
+mod split_reading;
 mod stop_clock;
 #[cfg(test)]
 mod tests;
 
-pub use offset_clock::OffsetClock;
-pub use split_clock::SplitClock;
+pub use clock::{Clock, OffsetClock, SplitClock};
+pub use reading::Reading;
 pub use stop_clock::{END, SEATS, StopClock};

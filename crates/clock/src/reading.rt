@@ -1,54 +1,22 @@
-ghost use Rattle.std.specs.Prelude.{◌≡◌, ◌+◌, ◌/◌, ◌%◌, ◌^◌, ◌<◌};
-ghost use Rattle.clock.specs.Reading.{joined, one_second, split_turn};
-ghost use Rattle.clock.specs.Turns.{moment_of, onward, shown};
+ghost use Rattle.std.specs.Prelude.{◌≡◌, ℕ, ◌*◌, ◌<◌};
+ghost use Rattle.clock.specs.StopClock.{limit};
+ghost use Rattle.clock.specs.Turns.{onward, shown};
 
-// The nanoseconds of a second.
-const SECOND: u64 = 1_000_000_000;
+// What a clock shows. It counts nanoseconds, and begins again at 0 after so many: its turn.
+pub trait Reading: Copy {
+    ghost turn: { ℕ };
 
-// The seconds turn over after so many.
-const TURN: u128 = 1 << 32;
+    // The count that a reading stands for.
+    ghost count: { Self → ℕ };
 
-// What a split clock shows: whole seconds, which turn over, and the nanoseconds below one.
-#[derive(Clone, Copy)]
-pub(crate) struct Reading {
-    seconds: u32,
-    nanos: u32,
-    ghost below: { nanos < one_second },
-}
+    // What a clock with this start shows at a moment.
+    fn at(start: u64, moment: u64) -> Self
+        ensures { count result ≡ shown turn start moment };
 
-impl Reading {
-    // What a clock with this start shows at a moment. Their sum may pass 64 bits, and is not wrapped.
-    pub(crate) fn at(start: u64, moment: u64) -> Self
-        ensures seconds { result.seconds ≡ (start + moment) / one_second % 2 ^ 32 }
-        ensures nanos { result.nanos ≡ (start + moment) % one_second }
-        ensures whole { joined result.seconds result.nanos ≡ shown split_turn start moment }
-    {
-        let total = u128::from(start) + u128::from(moment);
-        let second = u128::from(SECOND);
-        Reading {
-            seconds: (total / second % TURN) as u32,
-            nanos: (total % second) as u32,
-        }
-    }
+    // The nanoseconds from an earlier reading to this one.
+    fn since(self, earlier: Self) -> u64
+        ensures { result ≡ onward turn (count earlier) (count self) };
 
-    // What a clock with this start shows at moment 0, which stands for no mark.
-    pub(crate) fn first(start: u64) -> Self
-        ensures { moment_of split_turn start (joined result.seconds result.nanos) ≡ 0 }
-    {
-        Reading::at(start, 0)
-    }
-
-    // The nanoseconds from an earlier reading to this one. The parts below a second are subtracted with their sign, and
-    // a difference below 0 borrows a second.
-    pub(crate) fn since(self, earlier: Reading) -> u64
-        ensures { result ≡ onward split_turn (joined earlier.seconds earlier.nanos) (joined self.seconds self.nanos) }
-    {
-        let mut seconds = self.seconds.wrapping_sub(earlier.seconds);
-        let mut nanos = self.nanos as i32 - earlier.nanos as i32;
-        if nanos < 0 {
-            seconds = seconds.wrapping_sub(1);
-            nanos += SECOND as i32;
-        }
-        u64::from(seconds) * SECOND + nanos as u64
-    }
+    // A turn takes more than twice as long as all moments, so no later mark is taken for an earlier one.
+    ghost long: { 2 * limit < turn };
 }

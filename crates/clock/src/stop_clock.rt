@@ -1,7 +1,7 @@
 ghost use Rattle.std.specs.Prelude.{◌≡◌, ℕ};
 ghost use Rattle.clock.specs.StopClock.{elapsed, fit, marked, unless_back};
 
-// How many seats a clock has.
+// How many seats a clock has. This and `END` stand in `network` too, so that neither crate depends on the other.
 pub const SEATS: usize = 16;
 
 // The first count of nanoseconds that is no moment.
@@ -15,7 +15,8 @@ pub trait StopClock {
     fn mark(&mut self, seat: usize, moment: u64)
         ensures { meaning self.new ≡ marked (meaning self.old) seat moment };
 
-    // The time from the seat's moment to this one: 0 if this one is earlier, or there is no such seat or moment.
+    // The time from the seat's moment to this one: 0 if this one is earlier, or there is no such seat or moment. By the rules
+    // a clock refuses nothing, so the 0 is no `None`.
     fn since(&self, seat: usize, moment: u64) -> u64
         ensures { result ≡ elapsed (meaning self.now) seat moment };
 }

@@ -3,7 +3,7 @@ ghost use Rattle.demo.specs.Batch.{come, cut_of};
 
 // A stretch of consecutive ticks: its number, the number of its first tick, both from 1, how many there are, and when it
 // was sent.
-#[derive(Clone, Copy)]
+#[derive(Clone, Copy, Default)]
 pub struct Batch {
     pub number: u64,
     pub first: usize,
@@ -15,12 +15,7 @@ pub struct Batch {
 fn come_by(ticks: &[u64], at: u64) -> usize
     ensures { result ≡ come ticks.now at }
 {
-    for (i, tick) in ticks.iter().enumerate() {
-        if *tick > at {
-            return i;
-        }
-    }
-    ticks.len()
+    ticks.iter().take_while(|tick| **tick <= at).count()
 }
 
 // The batch that leaves at a moment: the ticks that have come by then, after the first `done`, if there are any.

@@ -20,11 +20,12 @@ pub fn arrival<R, N: Network<R>>(net: &N, link: usize, at: u64) -> Option<u64>
     if !net.waiting(link, at) {
         return None;
     }
-    let mut arrived = at;
-    while arrived > 0 && net.waiting(link, arrived - 1) {
-        arrived -= 1;
+    for moment in (0..at).rev() {
+        if !net.waiting(link, moment) {
+            return Some(moment + 1);
+        }
     }
-    Some(arrived)
+    Some(0)
 }
 
 // Hands the first record of a member's line out and marks the member's clock, if the record has arrived and the member

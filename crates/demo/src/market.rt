@@ -27,16 +27,6 @@ const OFFSET_START: u64 = u64::MAX;
 
 const SPLIT_START: u64 = 4_294_967_295_999_999_900;
 
-const FREE: Slot<Batch> = Slot {
-    arrival: 0,
-    item: Batch {
-        number: 0,
-        first: 0,
-        count: 0,
-        sent: 0,
-    },
-};
-
 // Sends a batch to a member.
 fn carry<N: Network<Batch>>(
     rt: &impl Print,
@@ -83,9 +73,9 @@ fn serve<N: Network<Batch>, C: StopClock>(
 
 // The run: batches are cut and sent, and handed out as they arrive.
 pub fn run(rt: &impl Print) -> io::Result<()> {
-    let mut slots = [FREE; 128];
+    let mut slots = [Slot::default(); 128];
     let mut lines = Poll::new(Hop::new(Fixed::new(&mut slots, LENGTHS), 4), 8);
-    let mut traced = [FREE; 128];
+    let mut traced = [Slot::default(); 128];
     let mut recorded = Trace::new(&mut traced, &RECORDED);
     let mut offset = OffsetClock::new([OFFSET_START; SEATS]);
     let mut split = SplitClock::new([SPLIT_START; SEATS]);

@@ -1,19 +1,11 @@
 // Orders in the book: each is taken with a fill list of its own, and printed with what became of it.
 use book::{Book, Fill, Order, Party, Resting, Side};
 use lines::Lines;
-use std::alloc::{AllocError, Global};
+use std::alloc::Global;
+use std::fmt;
 
 // How many fills an order may have.
 const FILLS: usize = 2;
-
-const NOBODY: Party = Party { seat: 0, serial: 0 };
-
-const FREE: Fill = Fill {
-    price: 0,
-    quantity: 0,
-    buyer: NOBODY,
-    seller: NOBODY,
-};
 
 fn order(seat: usize, serial: u32, side: Side, price: u32, quantity: u32) -> Order {
     Order {
@@ -24,37 +16,38 @@ fn order(seat: usize, serial: u32, side: Side, price: u32, quantity: u32) -> Ord
     }
 }
 
-fn side_name(side: Side) -> &'static str {
-    match side {
-        Side::Buy => "buy",
-        Side::Sell => "sell",
-    }
-}
-
 // The price of the best order of a side, or a dash where none rests.
-fn price_text(heap: Global, best: Option<Resting>) -> Result<String, AllocError> {
-    match best {
-        Some(resting) => resting.price.to_string(heap),
-        None => String::from_str(heap, "-"),
+#[derive(Clone, Copy)]
+struct Price(Option<Resting>);
+
+impl fmt::Display for Price {
+    fn fmt<W: fmt::Write>(&self, f: &mut fmt::Formatter<W>) -> fmt::Result {
+        match &self.0 {
+            Some(resting) => resting.price.fmt(f),
+            None => f.pad("-"),
+        }
     }
 }
 
 // A line for an order and a line for each of its fills.
-fn trade(rt: &impl Print, heap: Global, book: &mut Book, order: Order) -> anyhow::Result<()> {
-    let mut fills = [FREE; FILLS];
+fn trade(rt: &impl Print, book: &mut Book, order: Order) -> anyhow::Result<()> {
+    let mut fills = [Fill::default(); FILLS];
     let mut list = Lines::new(&mut fills);
     let booked = book.take_order(order, &mut list);
     let Party { seat, serial } = order.party;
-    let side = side_name(order.side);
-    let price = order.price;
-    let quantity = order.quantity;
-    let best_buy = price_text(heap, book.best_buy())?;
-    let best_sell = price_text(heap, book.best_sell())?;
+    let Order {
+        side,
+        price,
+        quantity,
+        ..
+    } = order;
+    let best_buy = Price(book.best_buy());
+    let best_sell = Price(book.best_sell());
     println!(rt;
         "{seat:>4} {serial:>6} {side:>5} {price:>6} {quantity:>8} {:>7} {:>7} {:>8} {best_buy:>9} {best_sell:>10}",
         booked.filled, booked.rested, booked.dropped
     )?;
-    for fill in fills.iter().take(booked.fills) {
+    for fill in list.written() {
         print_fill(rt, fill)?;
     }
     Ok(())
@@ -91,7 +84,7 @@ pub fn run(rt: &impl Print, heap: Global) -> anyhow::Result<()> {
         "seat serial  side  price quantity  filled  rested  dropped  best buy  best sell"
     )?;
     for order in orders {
-        trade(rt, heap, &mut book, order)?;
+        trade(rt, &mut book, order)?;
     }
     Ok(())
 }

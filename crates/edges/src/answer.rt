@@ -1,16 +1,9 @@
-// Answers as values that compare.
+// Answers as values that compare. Refusals are told by number, as the rules name them.
 use book::Booked;
 use order::{Event, Outcome};
-use records::{Batch, Direction, Kind, Refusal};
+use records::{Batch, Direction, Kind, Line, Refusal};
 
-#[derive(Clone, Copy, PartialEq, Debug)]
-pub enum Way {
-    Forward,
-    Reverse,
-    Neither,
-}
-
-#[derive(Clone, Copy, PartialEq, Debug)]
+#[derive(Clone, Copy, Debug, PartialEq, Eq)]
 pub enum Answer {
     // The number of a point, a batch or a trade.
     Number(u32),
@@ -30,89 +23,70 @@ pub enum Answer {
     // A refusal with its number alone, with a seat, and with all.
     Refused(u32),
     RefusedAt(u32, usize),
-    RefusedWith(u32, Option<usize>, Way, u32),
-}
-
-fn way_of(hop: Option<Direction>) -> Way {
-    match hop {
-        Some(Direction::Forward) => Way::Forward,
-        Some(Direction::Reverse) => Way::Reverse,
-        None => Way::Neither,
-    }
+    RefusedWith(u32, Option<usize>, Option<Direction>, u32),
 }
 
 // In the shortest form that says all.
 fn refused(refusal: Refusal) -> Answer {
-    match (refusal.seat(), way_of(refusal.hop()), refusal.batch()) {
-        (None, Way::Neither, 0) => Answer::Refused(refusal.number()),
-        (Some(seat), Way::Neither, 0) => Answer::RefusedAt(refusal.number(), seat),
-        (seat, way, batch) => Answer::RefusedWith(refusal.number(), seat, way, batch),
+    match (refusal.seat(), refusal.hop(), refusal.batch()) {
+        (None, None, 0) => Answer::Refused(refusal.number()),
+        (Some(seat), None, 0) => Answer::RefusedAt(refusal.number(), seat),
+        (seat, hop, batch) => Answer::RefusedWith(refusal.number(), seat, hop, batch),
     }
 }
 
-fn numbered(answer: Result<u32, Refusal>) -> Answer {
+// What an answer says, or the refusal.
+fn told<T, F: FnOnce(T) -> Answer>(answer: Result<T, Refusal>, says: F) -> Answer
+    requires { F.IsAlwaysCallable says }
+{
     match answer {
-        Ok(number) => Answer::Number(number),
+        Ok(value) => says(value),
         Err(refusal) => refused(refusal),
     }
 }
 
-fn given(answer: Result<Batch, Refusal>) -> Answer {
-    match answer {
-        Ok(batch) => Answer::Given(batch.number, batch.first, batch.count),
-        Err(refusal) => refused(refusal),
+fn given(batch: Batch) -> Answer {
+    Answer::Given(batch.number, batch.first, batch.count)
+}
+
+fn taken(kind: Kind) -> Answer {
+    match kind {
+        Kind::Trade => Answer::TookTrade,
+        Kind::Beat => Answer::TookBeat,
+        Kind::End => Answer::TookEnd,
     }
 }
 
-fn sent(answer: Result<(), Refusal>) -> Answer {
-    match answer {
-        Ok(()) => Answer::Sent,
-        Err(refusal) => refused(refusal),
-    }
+fn placed(outcome: Outcome) -> Answer {
+    let Line { place, trade } = outcome.line;
+    Answer::Released(place, trade.seat, trade.serial)
 }
 
-fn taken(answer: Result<Kind, Refusal>) -> Answer {
-    match answer {
-        Ok(Kind::Trade) => Answer::TookTrade,
-        Ok(Kind::Beat) => Answer::TookBeat,
-        Ok(Kind::End) => Answer::TookEnd,
-        Err(refusal) => refused(refusal),
+// All is dropped, and nothing else became of it.
+fn dropped(outcome: Outcome) -> Answer {
+    let dropped = outcome.booked.dropped;
+    if outcome.booked == Booked::all_dropped(dropped) {
+        Answer::Dropped(dropped)
+    } else {
+        Answer::Lost
     }
 }
 
 pub fn released(answer: Result<Outcome, Refusal>) -> Answer {
-    match answer {
-        Ok(Outcome { line, booked: _ }) => Answer::Released(
-            line.place,
-            line.trade.seat,
-            line.trade.serial,
-        ),
-        Err(refusal) => refused(refusal),
-    }
+    told(answer, placed)
 }
 
 pub fn rejected(answer: Result<Outcome, Refusal>) -> Answer {
-    match answer {
-        Ok(Outcome { line: _, booked }) => match booked {
-            Booked {
-                filled: 0,
-                rested: 0,
-                dropped,
-                fills: 0,
-            } => Answer::Dropped(dropped),
-            _ => Answer::Lost,
-        },
-        Err(refusal) => refused(refusal),
-    }
+    told(answer, dropped)
 }
 
 pub fn answer_of(event: Event) -> Answer {
     match event {
         Event::Point { answer, .. } | Event::Seal { answer, .. } | Event::Submit { answer, .. } =>
-            numbered(answer),
-        Event::Deliver { answer, .. } => given(answer),
-        Event::Beat { answer, .. } | Event::End { answer, .. } => sent(answer),
-        Event::Collect { answer, .. } => taken(answer),
+            told(answer, Answer::Number),
+        Event::Deliver { answer, .. } => told(answer, given),
+        Event::Beat { answer, .. } | Event::End { answer, .. } => told(answer, |()| Answer::Sent),
+        Event::Collect { answer, .. } => told(answer, taken),
         Event::Release { answer } => released(answer),
     }
 }

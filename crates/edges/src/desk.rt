@@ -1,12 +1,11 @@
 // A session with all that it stands over, which makes calls in turn and looks at each answer.
 use crate::answer::{Answer, answer_of, rejected};
-use crate::lists::{NO_BATCH, NO_LINE, NO_MESSAGE};
 use crate::step::{Step, buy, stray_beat, stray_trade};
 use book::{Book, Fill};
 use clock::{OffsetClock, SEATS};
 use lines::Lines;
 use network::{Fixed, LINKS, Network, Slot};
-use order::{Call, Outcome, act};
+use order::{Call, Outcome, Venue, act};
 use records::{Batch, Line, Message, Refusal};
 use session::{Layout, Session};
 use std::alloc::Global;
@@ -59,14 +58,17 @@ impl<'a> Desk<'a> {
     }
 
     fn act(&mut self, call: Call) -> Answer {
+        let mut venue = Venue {
+            forward: &mut self.forward,
+            reverse: &mut self.reverse,
+            clock: &mut self.clock,
+            book: &mut self.book,
+        };
         answer_of(act(
             &mut self.session,
-            &mut self.forward,
-            &mut self.reverse,
-            &mut self.clock,
+            &mut venue,
             &mut self.points,
             &mut self.tape,
-            &mut self.book,
             &mut self.fills,
             call,
         ))
@@ -74,11 +76,10 @@ impl<'a> Desk<'a> {
 
     // Makes a call so many times, and gives the last answer.
     fn repeat(&mut self, count: u32, call: Call) -> Answer {
-        let mut last = Answer::Lost;
-        for _ in 0..count {
-            last = self.act(call);
+        for _ in 1..count {
+            let _ = self.act(call);
         }
-        last
+        self.act(call)
     }
 
     fn reject(&mut self) -> Answer {
@@ -147,10 +148,10 @@ pub fn run(
     seats: usize,
     rows: &[(Step, Answer)],
 ) -> Result<(), Fail> {
-    let mut forward = [NO_BATCH; 32];
-    let mut reverse = [NO_MESSAGE; 256];
+    let mut forward = [Slot::default(); 32];
+    let mut reverse = [Slot::default(); 256];
     let mut points = [0; 128];
-    let mut tape = [NO_LINE; 32];
+    let mut tape = [Line::default(); 32];
     let mut desk = Desk::new(
         rt,
         heap,

@@ -9,8 +9,6 @@ mod desk;
 #[cfg(test)]
 mod layout;
 #[cfg(test)]
-mod lists;
-#[cfg(test)]
 mod market_data;
 #[cfg(test)]
 mod moments;

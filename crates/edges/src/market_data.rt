@@ -1,8 +1,8 @@
 // Points, seals and deliveries.
 use crate::answer::Answer::*;
-use crate::answer::Way::*;
 use crate::desk::{Desk, run};
 use crate::step::Step::*;
+use records::Direction::*;
 use std::test::Fail;
 
 #[test]
@@ -62,9 +62,9 @@ fn seals_are_a_window_apart(rt: HostRuntime) -> Result<(), Fail> {
             (Point(65), Number(4)),
             // The links hold two batches. The lowest full one is named, unless its seat has ended.
             (Seal(109), Refused(23)),
-            (Seal(110), RefusedWith(24, Some(1), Forward, 3)),
+            (Seal(110), RefusedWith(24, Some(1), Some(Forward), 3)),
             (End(110, 1), Sent),
-            (Seal(110), RefusedWith(24, Some(2), Forward, 3)),
+            (Seal(110), RefusedWith(24, Some(2), Some(Forward), 3)),
             (Deliver(110, 2), Given(1, 1, 1)),
             (Seal(110), Number(3)),
             // Each seat got all three, and the ended one nothing more.
@@ -84,18 +84,18 @@ fn deliveries_are_a_horizon_apart(rt: HostRuntime) -> Result<(), Fail> {
         &[
             (Point(0), Number(1)),
             (Seal(0), Number(1)),
-            (Deliver(4, 0), RefusedWith(30, Some(0), Forward, 0)),
+            (Deliver(4, 0), RefusedWith(30, Some(0), Some(Forward), 0)),
             (Deliver(5, 0), Given(1, 1, 1)),
-            (Deliver(5, 0), RefusedWith(30, Some(0), Forward, 1)),
+            (Deliver(5, 0), RefusedWith(30, Some(0), Some(Forward), 1)),
             (Point(5), Number(2)),
             (Seal(50), Number(2)),
-            (Deliver(54, 0), RefusedWith(30, Some(0), Forward, 1)),
+            (Deliver(54, 0), RefusedWith(30, Some(0), Some(Forward), 1)),
             (Deliver(60, 1), Given(1, 1, 1)),
-            (Deliver(60, 1), RefusedWith(31, Some(1), Neither, 1)),
-            (Deliver(79, 1), RefusedWith(31, Some(1), Neither, 1)),
+            (Deliver(60, 1), RefusedWith(31, Some(1), None, 1)),
+            (Deliver(79, 1), RefusedWith(31, Some(1), None, 1)),
             (Deliver(79, 0), Given(2, 2, 1)),
             (Deliver(80, 1), Given(2, 2, 1)),
-            (Deliver(81, 1), RefusedWith(30, Some(1), Forward, 2)),
+            (Deliver(81, 1), RefusedWith(30, Some(1), Some(Forward), 2)),
         ],
     )
 }

@@ -1,9 +1,9 @@
 // The checks that come first: the moment, the seat, and whether the seat has ended.
 use crate::answer::Answer::*;
-use crate::answer::Way::*;
 use crate::desk::run;
 use crate::step::Step::*;
 use network::END;
+use records::Direction::*;
 use std::test::Fail;
 
 const NOWHERE: usize = usize::MAX;
@@ -25,10 +25,10 @@ fn moments_never_go_back(rt: HostRuntime) -> Result<(), Fail> {
             (End(6, 2), RefusedAt(10, 2)),
             (Collect(0, NOWHERE), RefusedAt(10, NOWHERE)),
             // A refused call does not count.
-            (Deliver(100, 0), RefusedWith(30, Some(0), Forward, 0)),
+            (Deliver(100, 0), RefusedWith(30, Some(0), Some(Forward), 0)),
             (Submit(101, 0), RefusedAt(40, 0)),
             (Beat(102, 2), RefusedAt(11, 2)),
-            (Collect(103, 0), RefusedWith(50, Some(0), Reverse, 0)),
+            (Collect(103, 0), RefusedWith(50, Some(0), Some(Reverse), 0)),
             (Point(END), Refused(10)),
             // The same moment is taken, and each accepted call counts.
             (Seal(7), Number(1)),
@@ -67,7 +67,10 @@ fn the_last_moment_is_below_the_end(rt: HostRuntime) -> Result<(), Fail> {
             (Seal(END - 1), Number(2)),
             (Collect(END, 0), RefusedAt(10, 0)),
             // The trade arrives at the end, which is no moment.
-            (Collect(END - 1, 0), RefusedWith(50, Some(0), Reverse, 0)),
+            (
+                Collect(END - 1, 0),
+                RefusedWith(50, Some(0), Some(Reverse), 0),
+            ),
             (End(END, 0), RefusedAt(10, 0)),
             (End(END - 1, 0), Sent),
         ],
@@ -96,7 +99,7 @@ fn seats_are_there_until_they_end(rt: HostRuntime) -> Result<(), Fail> {
             (Beat(6, 1), RefusedAt(12, 1)),
             (End(6, 1), RefusedAt(12, 1)),
             (Collect(10, 1), TookEnd),
-            (Collect(10, 1), RefusedWith(50, Some(1), Reverse, 0)),
+            (Collect(10, 1), RefusedWith(50, Some(1), Some(Reverse), 0)),
             // A bare seat may end too.
             (End(10, 0), Sent),
             (Submit(10, 0), RefusedAt(12, 0)),

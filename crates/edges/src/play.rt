@@ -2,14 +2,13 @@
 use crate::answer::Answer::*;
 use crate::answer::{Answer, answer_of};
 use crate::desk::run;
-use crate::lists::{NO_BATCH, NO_FILL, NO_LINE, NO_MESSAGE};
 use crate::step::Step::*;
 use crate::step::buy;
-use book::{Book, Fill, Side};
+use book::{Book, Booked, Fill, Side};
 use clock::{OffsetClock, SEATS};
 use lines::Lines;
-use network::{Fixed, LINKS};
-use order::{Call, Event, Played, play};
+use network::{Fixed, LINKS, Slot};
+use order::{Call, Event, Played, Venue, play};
 use records::{Line, Offer};
 use session::Layout;
 use std::alloc::Global;
@@ -37,50 +36,25 @@ fn a_rejected_ticket_drops_all(rt: HostRuntime) -> Result<(), Fail> {
     )
 }
 
-// Whether an event is of a call.
-fn is_of(event: &Event, call: &Call) -> bool {
-    match (*event, *call) {
-        (
-            Event::Point {
-                at: a,
-                value: x,
-                ..
-            },
-            Call::Point { at, value },
-        ) => a == at && x == value,
-        (Event::Seal { at: a, .. }, Call::Seal { at }) => a == at,
-        (Event::Deliver { at: a, seat: k, .. }, Call::Deliver { at, seat })
-        | (Event::Submit { at: a, seat: k, .. }, Call::Submit { at, seat, .. })
-        | (Event::Beat { at: a, seat: k, .. }, Call::Beat { at, seat })
-        | (Event::End { at: a, seat: k, .. }, Call::End { at, seat })
-        | (Event::Collect { at: a, seat: k, .. }, Call::Collect { at, seat }) => a == at
-            && k == seat,
-        (Event::Release { .. }, Call::Release) => true,
-        _ => false,
-    }
-}
-
 // That events are these calls in turn, with these answers.
 fn tell(rt: &impl Abort, events: &[Event], calls: &[Call], answers: &[Answer]) {
     assert_eq!(rt; events.len(), calls.len());
     for ((event, call), answer) in events.iter().zip(calls.iter()).zip(answers.iter()) {
-        assert_eq!(rt; (is_of(event, call), answer_of(*event)), (true, *answer));
+        assert_eq!(rt; (event.call(), answer_of(*event)), (*call, *answer));
     }
 }
 
-// The parts of what the last trade was booked as.
-fn last_booked(events: &[Event]) -> (u32, u32, u32, usize) {
-    let mut last = (0, 0, 0, 0);
-    for event in events {
-        if let Event::Release {
-            answer: Ok(outcome),
-        } = *event
-        {
-            let booked = outcome.booked;
-            last = (booked.filled, booked.rested, booked.dropped, booked.fills);
-        }
-    }
-    last
+// What the last released trade was booked as.
+fn last_booked(events: &[Event]) -> Option<Booked> {
+    events
+        .iter()
+        .filter_map(|event| match *event {
+            Event::Release {
+                answer: Ok(outcome),
+            } => Some(outcome.booked),
+            _ => None,
+        })
+        .last()
 }
 
 // Plays calls with two seats.
@@ -95,23 +69,26 @@ fn play_two(
     let _ = layout.add_seat();
     let _ = layout.add_seat();
     let mut book = Book::new(heap)?;
-    let mut batches = [NO_BATCH; 16];
-    let mut messages = [NO_MESSAGE; 32];
+    let mut batches = [Slot::default(); 16];
+    let mut messages = [Slot::default(); 32];
     let mut forward = Fixed::new(&mut batches, [5; LINKS]);
     let mut reverse = Fixed::new(&mut messages, [5; LINKS]);
     let mut clock = OffsetClock::new([7; SEATS]);
     let mut points = Lines::new(points);
     let mut tape = Lines::new(tape);
     let mut fills = Lines::new(fills);
+    let mut venue = Venue {
+        forward: &mut forward,
+        reverse: &mut reverse,
+        clock: &mut clock,
+        book: &mut book,
+    };
     Ok(play(
         heap,
         layout,
-        &mut forward,
-        &mut reverse,
-        &mut clock,
+        &mut venue,
         &mut points,
         &mut tape,
-        &mut book,
         &mut fills,
         calls,
     )?)
@@ -172,12 +149,18 @@ fn calls_are_played_in_turn(rt: HostRuntime) -> Result<(), Fail> {
         Refused(60),
     ];
     let mut points = [0; 2];
-    let mut tape = [NO_LINE; 2];
-    let mut fills = [NO_FILL; 1];
+    let mut tape = [Line::default(); 2];
+    let mut fills = [Fill::default(); 1];
     let played = play_two(rt.alloc(), &mut points, &mut tape, &mut fills, &calls)?;
     assert!(rt; played.session.settled());
     tell(&rt, &played.events, &calls, &answers);
-    assert_eq!(rt; last_booked(&played.events), (5, 3, 0, 1));
+    let booked = Booked {
+        filled: 5,
+        rested: 3,
+        dropped: 0,
+        fills: 1,
+    };
+    assert_eq!(rt; last_booked(&played.events), Some(booked));
     assert_eq!(rt; points, [77, 0]);
     let [first, second] = tape;
     assert_eq!(rt;

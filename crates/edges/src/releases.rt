@@ -1,11 +1,10 @@
 // The order of the releases, and what holds them up.
 use crate::answer::Answer::*;
-use crate::answer::Way::*;
 use crate::answer::released;
 use crate::desk::{Desk, reject, run};
-use crate::lists::{NO_BATCH, NO_LINE, NO_MESSAGE};
 use crate::step::Step::*;
 use lines::Lines;
+use network::Slot;
 use records::Line;
 use std::alloc::Global;
 use std::process::Abort;
@@ -28,9 +27,9 @@ fn a_watermark_must_be_above(rt: HostRuntime) -> Result<(), Fail> {
             (Beat(50, 1), Sent),
             (Release, Refused(60)),
             (Collect(54, 0), TookTrade),
-            (Release, RefusedWith(61, Some(1), Neither, 1)),
+            (Release, RefusedWith(61, Some(1), None, 1)),
             (Collect(54, 1), TookBeat),
-            (Release, RefusedWith(61, Some(1), Neither, 1)),
+            (Release, RefusedWith(61, Some(1), None, 1)),
             (Collect(55, 1), TookBeat),
             (Release, Released(1, 0, 1)),
             (Release, Refused(60)),
@@ -42,12 +41,12 @@ fn a_watermark_must_be_above(rt: HostRuntime) -> Result<(), Fail> {
             (Beat(100, 1), Sent),
             (Collect(105, 0), TookTrade),
             (Collect(105, 1), TookBeat),
-            (Release, RefusedWith(61, Some(1), Neither, 2)),
+            (Release, RefusedWith(61, Some(1), None, 2)),
             (Submit(115, 1), Number(1)),
             (End(115, 1), Sent),
             (Collect(120, 1), TookTrade),
             (Release, Released(2, 1, 1)),
-            (Release, RefusedWith(61, Some(1), Neither, 2)),
+            (Release, RefusedWith(61, Some(1), None, 2)),
             (Collect(120, 1), TookEnd),
             (Release, Released(3, 0, 2)),
         ],
@@ -70,12 +69,12 @@ fn equal_tags_go_by_seat_and_serial(rt: HostRuntime) -> Result<(), Fail> {
             (Submit(19, 0), Number(2)),
             (Submit(20, 0), Number(3)),
             (Collect(24, 1), TookTrade),
-            (Release, RefusedWith(61, Some(0), Neither, 1)),
+            (Release, RefusedWith(61, Some(0), None, 1)),
             (Collect(24, 0), TookTrade),
             (Collect(24, 0), TookTrade),
             (Collect(25, 0), TookTrade),
             // Seat 0's trades are first, and seat 1 holds them up.
-            (Release, RefusedWith(61, Some(1), Neither, 1)),
+            (Release, RefusedWith(61, Some(1), None, 1)),
             (Beat(25, 1), Sent),
             (Collect(30, 1), TookBeat),
             (Release, Released(1, 0, 1)),
@@ -89,8 +88,8 @@ fn equal_tags_go_by_seat_and_serial(rt: HostRuntime) -> Result<(), Fail> {
 
 // Two trades of seat 0 onto a tape of one line, with tags (1, 2) and (1, 3).
 fn release_two(rt: &impl Abort, heap: Global, tape: &mut [Line]) -> Result<(), Fail> {
-    let mut forward = [NO_BATCH; 32];
-    let mut reverse = [NO_MESSAGE; 64];
+    let mut forward = [Slot::default(); 32];
+    let mut reverse = [Slot::default(); 64];
     let mut points = [0; 1];
     let mut desk = Desk::new(rt, heap, 2, &mut forward, &mut reverse, &mut points, tape)?;
     desk.expect(
@@ -109,13 +108,13 @@ fn release_two(rt: &impl Abort, heap: Global, tape: &mut [Line]) -> Result<(), F
             (Collect(18, 1), TookBeat),
             (Release, Released(1, 0, 1)),
             // What holds the next one up is told before the full tape.
-            (Release, RefusedWith(61, Some(1), Neither, 1)),
+            (Release, RefusedWith(61, Some(1), None, 1)),
             (Collect(19, 1), TookEnd),
             (Release, Refused(62)),
             (Release, Refused(62)),
         ],
     );
-    let mut more = [NO_LINE; 2];
+    let mut more = [Line::default(); 2];
     let answer = reject(&mut desk.session, &mut Lines::new(&mut more));
     assert_eq!(rt;
         released(answer),
@@ -128,7 +127,7 @@ fn release_two(rt: &impl Abort, heap: Global, tape: &mut [Line]) -> Result<(), F
 
 #[test]
 fn a_full_tape_leaves_the_trade(rt: HostRuntime) -> Result<(), Fail> {
-    let mut tape = [NO_LINE; 1];
+    let mut tape = [Line::default(); 1];
     release_two(&rt, rt.alloc(), &mut tape)?;
     let [Line { place, trade }] = tape;
     assert_eq!(rt; (place, trade.seat, trade.serial), (1, 0, 1));

@@ -1,4 +1,5 @@
-// Calls and what else is done at a desk, written short. A moment comes first, then a seat.
+// Calls and what else is done at a desk, written short. A moment comes first, then a seat. They are values and no closures,
+// so that a test is a table.
 use book::Side;
 use records::{Message, Offer, Tag, Trade};
 

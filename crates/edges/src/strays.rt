@@ -1,7 +1,6 @@
 // Messages that come over a reverse link past the session. A stray trade isn't buffered, and each message's tag becomes
 // the watermark of the link's seat.
 use crate::answer::Answer::*;
-use crate::answer::Way::*;
 use crate::desk::run;
 use crate::step::Step::*;
 use std::test::Fail;
@@ -26,7 +25,7 @@ fn a_trade_of_another_seat_is_stray(rt: HostRuntime) -> Result<(), Fail> {
             (Collect(24, 1), TookTrade),
             // Seat 0 is known up to (1, 9).
             (Release, Released(1, 1, 1)),
-            (Release, RefusedWith(61, Some(0), Neither, 1)),
+            (Release, RefusedWith(61, Some(0), None, 1)),
         ],
     )
 }
@@ -95,7 +94,7 @@ fn a_beat_after_an_end_takes_it_back(rt: HostRuntime) -> Result<(), Fail> {
             (Collect(18, 1), TookBeat),
             // Seat 1 is known up to (1, 3).
             (Release, Released(1, 0, 1)),
-            (Release, RefusedWith(61, Some(1), Neither, 1)),
+            (Release, RefusedWith(61, Some(1), None, 1)),
             (Collect(18, 1), TookEnd),
             (Release, Released(2, 0, 2)),
             (Settled, Is(true)),

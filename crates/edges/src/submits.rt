@@ -1,10 +1,11 @@
 // Which offers a seat may submit.
 use crate::answer::Answer::*;
-use crate::answer::Way::*;
 use crate::desk::{Desk, reject, run};
-use crate::lists::{NO_BATCH, NO_LINE, NO_MESSAGE};
 use crate::step::Step::*;
 use lines::Lines;
+use network::Slot;
+use records::Direction::*;
+use records::Line;
 use std::test::Fail;
 
 #[test]
@@ -60,7 +61,7 @@ fn sixteen_trades_are_pending_at_most(rt: HostRuntime) -> Result<(), Fail> {
             // The link is full too, which is told last.
             (Submit(5, 0), RefusedAt(44, 0)),
             (Offer(5, 0, 1, 0, 1), RefusedAt(42, 0)),
-            (Beat(5, 0), RefusedWith(45, Some(0), Reverse, 0)),
+            (Beat(5, 0), RefusedWith(45, Some(0), Some(Reverse), 0)),
             (Submit(5, 1), Number(1)),
             (End(5, 1), Sent),
             (Collect(10, 0), TookTrade),
@@ -92,14 +93,14 @@ fn a_link_fills_up(rt: HostRuntime) -> Result<(), Fail> {
             (Deliver(5, 1), Given(1, 1, 1)),
             (Submit(5, 1), Number(1)),
             (Beats(5, 1, 15), Sent),
-            (Submit(6, 1), RefusedWith(45, Some(1), Reverse, 0)),
-            (Beat(6, 1), RefusedWith(45, Some(1), Reverse, 0)),
-            (End(6, 1), RefusedWith(45, Some(1), Reverse, 0)),
+            (Submit(6, 1), RefusedWith(45, Some(1), Some(Reverse), 0)),
+            (Beat(6, 1), RefusedWith(45, Some(1), Some(Reverse), 0)),
+            (End(6, 1), RefusedWith(45, Some(1), Some(Reverse), 0)),
             (Beat(6, 0), Sent),
-            (Collect(9, 1), RefusedWith(50, Some(1), Reverse, 0)),
+            (Collect(9, 1), RefusedWith(50, Some(1), Some(Reverse), 0)),
             (Collect(10, 1), TookTrade),
             (Submit(10, 1), Number(2)),
-            (Submit(10, 1), RefusedWith(45, Some(1), Reverse, 0)),
+            (Submit(10, 1), RefusedWith(45, Some(1), Some(Reverse), 0)),
             (Collect(10, 1), TookBeat),
             (End(10, 1), Sent),
             (Submit(10, 1), RefusedAt(12, 1)),
@@ -108,21 +109,19 @@ fn a_link_fills_up(rt: HostRuntime) -> Result<(), Fail> {
 }
 
 // Trades that are submitted, collected and released one by one.
-fn trade(desk: &mut Desk, count: u32) {
-    let mut at = 5u64;
-    for _ in 0..count {
+fn trade(desk: &mut Desk, count: usize) {
+    for at in (5..).step_by(5).take(count) {
         let _ = desk.make(Submit(at, 0));
-        at = at.saturating_add(5);
-        let _ = desk.make(Collect(at, 0));
-        let mut tape = [NO_LINE; 1];
+        let _ = desk.make(Collect(at.saturating_add(5), 0));
+        let mut tape = [Line::default(); 1];
         let _ = reject(&mut desk.session, &mut Lines::new(&mut tape));
     }
 }
 
 #[test]
 fn a_seat_has_a_million_trades(rt: HostRuntime) -> Result<(), Fail> {
-    let mut forward = [NO_BATCH; 16];
-    let mut reverse = [NO_MESSAGE; 512];
+    let mut forward = [Slot::default(); 16];
+    let mut reverse = [Slot::default(); 512];
     let mut points = [0; 1];
     let mut desk = Desk::new(
         &rt,

@@ -7,7 +7,7 @@ use Rattle.std.specs.Slice.{IsGetResult}
 use Rattle.std.specs.List.Sorted.{IsPermutation}
 use Rattle.std.proofs.Permutation.{every_shuffled}
 use Rattle.std.proofs.lemmas.List.Sorted.{IsPermutation-swap_remove, IsPermutation-trans, IsPermutation-sym, IsPermutation-cons, IsPermutation-to_front}
-use Rattle.heap.specs.Calls.{Peeks, PeeksFirst}
+use Rattle.heap.specs.Calls.{Peeks}
 use Rattle.heap.specs.Heaps.{AtRoot, First, Gap, Heaped}
 use Rattle.heap.proofs.Sift.{at_child, by, root_first}
 
@@ -19,11 +19,6 @@ none_left (x ∷ xs) h = absurd (omega arith)
 -- a vector whose slice was sifted holds what the slice then held
 pub refilled_is : {X : Type 0} (n : ℕ) (ws t : List X) → length ws ≡ n → take n (ws ++ t) ≡ ws
 refilled_is n ws t e = take-append-le n ws t (omega arith) ∙ take_all n ws (omega arith)
-
--- what was found at the root is what a peek answers
-pub peeked : {X : Type 0} (xs : List X) (r : Option (Bor X)) → IsGetResult xs 0 0 r → Peeks xs r
-peeked xs None i = none_left xs i.3
-peeked xs (Some x) i = (i.3.0, i.1)
 
 -- an element at the end joins those before, and the sift only moves them
 pub added : {X : Type 0} (xs ys ws zs : List X) (x : X) → ys ≡ xs ++ x ∷ [] → IsPermutation ys ws → zs ≡ ws → IsPermutation (x ∷ xs) zs
@@ -56,7 +51,7 @@ module _ {X : Type 0} (R : X → X → Type 0) where
   pub first_left : (xs zs : List X) (x : X) → First R x xs → IsPermutation xs (x ∷ zs) → First R x zs
   first_left xs zs x h s = (every_shuffled (R x) xs (x ∷ zs) s h).1
 
-  -- what a peek answers comes first
-  pub peeked_first : (refl' : (x : X) → R x x) (trans : (x y z : X) → R x y → R y z → R x z) (xs : List X) (r : Option (Bor X)) → Peeks xs r → PeeksFirst R xs r
-  peeked_first refl' trans xs None i h = tt
-  peeked_first refl' trans xs (Some x) i h = root_first R refl' trans xs x.now i.1 h
+  -- what was found at the root is what a peek answers
+  pub peeked : (refl' : (x : X) → R x x) (trans : (x y z : X) → R x y → R y z → R x z) (xs : List X) (r : Option (Bor X)) → Heaped R xs → IsGetResult xs 0 0 r → Peeks R xs r
+  peeked refl' trans xs None h i = none_left xs i.3
+  peeked refl' trans xs (Some x) h i = (i.3.0, i.1, root_first R refl' trans xs x.now i.1 h)

@@ -1,3 +1,4 @@
+pub mod Roots
 pub mod Lex
 mod Sift
 mod Ranking

@@ -33,10 +33,6 @@ module _ {X : Type 0} (R : X → X → Type 0) where
   pub root_over : (xs : List X) (j : ℕ) → j ≡ 0 → Over R xs j
   root_over xs j h = λ p d a b. absurd (omega arith)
 
-  -- an element that its parent stands in R to fits it
-  pub rests_over : (xs : List X) (j p : ℕ) → Child p j → ((d : X) → R (get_or xs p d) (get_or xs j d)) → Over R xs j
-  rests_over xs j p c t = λ q d a b. let r : q ≡ p = omega arith in by _ _ _ _ (ap (λ m. get_or xs m d) r) refl (t d)
-
   -- one step of a sift: the elements at j and at its child c change places
   module _ (xs ys : List X) (j c : ℕ) (child : Child j c) (within : c < length xs) (long : length ys ≡ length xs) (s : Swapped xs ys j c) where
     -- downwards, past the first child, the gap moves from j to c

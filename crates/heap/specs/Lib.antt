@@ -1,5 +1,5 @@
 pub mod Order
 pub mod Keys
 pub mod Heaps
-pub mod Held
+pub mod Contents
 pub mod Calls

@@ -1,18 +1,28 @@
-ghost use Rattle.std.specs.Prelude.{◌≤◌, vec_len, vec_capacity};
+use crate::ranked::Ranked;
+use std::marker::Model;
 
 mod calls;
 mod places;
 mod sift;
 
-// At most `limit` elements, for which room is reserved. `T` need be neither `Copy` nor `Drop`: elements are only moved,
+// At most `limit` elements, for which room is reserved. It is no `BinaryHeap`, whose push may want memory, and whose elements
+// are equal where none precedes the other. `T` need be neither `Copy` nor `Drop`: elements are only moved,
 // so that already the types let none be doubled or lost.
-//
-// That the elements stand in order is no field of the heap, since a field cannot speak of the order of `T`: each call
-// says that it keeps the order.
 #[derive(Drop)]
-pub struct Heap<T> {
+pub struct Heap<T: Ranked> {
     items: Vec<T>,
     limit: usize,
-    ghost room: { limit ≤ vec_capacity items },
-    ghost within: { vec_len items ≤ limit },
+}
+
+// Contracts see what the heap holds and how much it may hold. Its elements always stand in order.
+impl<T: Ranked> Model for Heap<T> {
+    ghost use Rattle.std.specs.Prelude.{vec_capacity};
+    ghost use Rattle.heap.specs.Contents.{Contents, Sound};
+    ghost use Rattle.heap.specs.Heaps.{Upto};
+
+    ghost Value = { Contents T };
+
+    ghost view = { λ h. record { items = h.items.items; bound = h.limit } };
+
+    ghost invariant = { λ h. Sound (Upto T.key T.upto) h.items.items (vec_capacity h.items) h.limit };
 }

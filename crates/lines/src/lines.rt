@@ -1,8 +1,11 @@
-ghost use Rattle.std.specs.Prelude.{◌≡◌, ◌+◌, ◌<◌, not, length, is_ok, if◌then◌else◌, Some, None};
+ghost use Rattle.std.specs.Prelude.{◌≡◌, ◌+◌, ◌<◌, not, length, is_ok, take, if◌then◌else◌, Some, None};
 ghost use Rattle.lines.specs.Pages.{blank_page, full, page};
 ghost use Rattle.lines.specs.Writes.{Writes, with_line};
 
-// A lent list, and how many of its lines are written.
+// A lent list, and how many of its lines are written. It is no `Vec`: the caller lends fixed memory, and reads it afterwards.
+//
+// A library's call that takes a `&mut Lines` promises that it is still the same list that is lent: only by that clause does
+// the caller's borrow end at what the list holds. So there is no model of it, which would leave out what the clause names.
 #[derive(Drop)]
 pub struct Lines<'a, T> {
     lines: &'a mut [T],
@@ -23,6 +26,13 @@ impl<'a, T: Copy> Lines<'a, T> {
         ensures { result ≡ (page self.now).used }
     {
         self.used
+    }
+
+    // The lines that are written.
+    pub fn written(&self) -> &[T]
+        ensures { result.now ≡ take (page self.now).used (page self.now).lines }
+    {
+        &self.lines[..self.used.min(self.lines.len())]
     }
 
     // Whether a line is free.

@@ -1,18 +1,18 @@
 -- Rings in one list of slots: where their records lie, and what a send and a take leave of them.
-use Rattle.std.proofs.Common.{◌≡◌, ℕ, zero, suc, ◌+◌, ◌-◌, ◌*◌, ◌/◌, ◌%◌, ◌<◌, ◌≤◌, min, true, false, ltb, leb, List, [], ◌∷◌, ◌++◌, map, length, get_or, take, drop, set, replicate, Some, None, Option, sym, refl, ap, ◌∙◌, ⊎_elim, append_assoc, append-nil, add-mul, add-one, arith, length-append, length-drop, length-set, length-take, drop-cons}
+use Rattle.std.proofs.Common.{◌≡◌, ℕ, zero, suc, ◌+◌, ◌-◌, ◌*◌, ◌/◌, ◌%◌, ◌<◌, ◌≤◌, ltb, List, [], ◌∷◌, ◌++◌, map, length, get_or, take, drop, set, replicate, Option, sym, refl, ap, ◌∙◌, ⊎_elim, append_assoc, append-nil, add-mul, add-one, arith, length-append, length-drop, length-set, length-take, drop-cons}
 use Rattle.std.proofs.lemmas.List.{map-append, length-map, get_or-set_same, get_or-set_other}
 use Rattle.std.proofs.Math.Path.{fun_ext}
 use Rattle.std.proofs.Math.Nat.{mod-add-mod}
 use Rattle.std.proofs.lemmas.Nat.{div-add-mod', mod_below, mul-le, mul-add-lt, div-mul-add}
 use Rattle.std.proofs.lemmas.Bool.{cases_lt}
 use Rattle.std.proofs.lemmas.Bool.Decides.{nat_tests}
-use Rattle.std.specs.Option.{option_map}
+use Rattle.std.specs.Option.{unwrap_or}
 use Rattle.network.specs.declared.ring.Ring.{Ring}
 use Rattle.network.specs.declared.rings.Slot.{Slot}
 use Rattle.network.specs.Delays.{Next}
-use Rattle.network.specs.Network.{Link, limit, capped, has_room, arrived, is_waiting, earliest, Sent, Taken}
+use Rattle.network.specs.Network.{Link, Net, limit, capped, has_room, arrived, earliest, Sent, Taken}
 use Rattle.network.specs.Ring.{ring_size, place, blank, ring_sent, ring_taken}
-use Rattle.network.specs.Rings.{reads, pair_of, ring_link, delayed, ringed, unused}
+use Rattle.network.specs.Rings.{reads, pair_of, ring_link, Ahead, delayed, ringed, unused}
 use Rattle.network.proofs.Entries.{get_or_replicate_everywhere}
 
 one_at : {X : Type 0} (xs : List X) (j : ℕ) (d : X) → j < length xs → take 1 (drop j xs) ≡ get_or xs j d ∷ []
@@ -104,74 +104,54 @@ module _ {X : Type 0} (xs : List X) (c k h n : ℕ) where
       turn i = omega arith
 
 -- what a ring gives keeps the rules of an arrival
-module _ (m d longest : ℕ) (early : m < limit) where
-  sent_follows : (o : Option ℕ) → capped (earliest (m + d) o) ≡ earliest (capped (m + d)) (option_map capped o)
-  sent_follows None = omega arith
-  sent_follows (Some l) = omega arith
+module _ (m d longest : ℕ) (o : Option ℕ) (soon : m < limit) (early : unwrap_or o 0 ≤ limit) where
+  sent_follows : capped (earliest (m + d) o) ≡ earliest (capped (m + d)) o
+  sent_follows = omega arith
 
-  sent_after : (o : Option ℕ) → earliest m (option_map capped o) ≤ capped (earliest (m + d) o)
-  sent_after None = omega arith
-  sent_after (Some l) = omega arith
+  sent_after : earliest m o ≤ capped (earliest (m + d) o)
+  sent_after = omega arith
 
-  sent_before : (o : Option ℕ) → d ≤ longest → capped (earliest (m + d) o) ≤ earliest m (option_map capped o) + capped longest
-  sent_before None h = omega arith
-  sent_before (Some l) h = omega arith
+  sent_before : d ≤ longest → capped (earliest (m + d) o) ≤ earliest m o + capped longest
+  sent_before h = omega arith
 
-module _ {R : Type 0} (c : ℕ) (xs : List (Slot R)) (rs : List Ring) (delay : ℕ → ℕ → ℕ) (longest k : ℕ) (fit : 16 * c ≤ length xs) where
-  -- a link holds as many records as its ring counts
-  held : k < 16 → length ((ringed c xs rs delay longest).links k).pairs ≡ min (get_or rs k blank).count c
-  held l = simp length-map (⊎_elim some none (cases_lt 0 c))
-    where
-      some : 0 < c → length (reads xs (place c k (get_or rs k blank).head) (min (get_or rs k blank).count c)) ≡ min (get_or rs k blank).count c
-      some p = reads_length xs (place c k (get_or rs k blank).head) (min (get_or rs k blank).count c) (λ i. omega (arith, place_below c k ((get_or rs k blank).head + i) l p))
+-- as many records are read of a ring as it counts
+pub ring_length : {X : Type 0} (xs : List X) (c k h n : ℕ) → k < 16 → n ≤ c → 16 * c ≤ length xs → length (reads xs (place c k h) n) ≡ n
+ring_length xs c k h zero l u w = refl
+ring_length xs c k h (suc n) l u w = reads_length xs (place c k h) (suc n) (λ i. omega (arith, place_below c k (h + i) l (omega arith)))
 
-      none : c ≤ 0 → length (reads xs (place c k (get_or rs k blank).head) (min (get_or rs k blank).count c)) ≡ min (get_or rs k blank).count c
-      none p = let z : min (get_or rs k blank).count c ≡ 0 = omega arith in ap (λ n. length (reads xs (place c k (get_or rs k blank).head) n)) z ∙ sym z
+-- a link holds as many records as its ring counts
+pub ring_holds : {R : Type 0} (xs : List (Slot R)) (c k : ℕ) (r : Ring) → k < 16 → r.count ≤ c → 16 * c ≤ length xs → length (map pair_of (reads xs (place c k r.head) r.count)) ≡ r.count
+ring_holds xs c k r l u w = simp length-map (ring_length xs c k r.head r.count l u w)
 
-  pub ringed_room : k < 16 → has_room (ringed c xs rs delay longest) k ≡ ltb (get_or rs k blank).count c
-  ringed_room l = let e = held l in grind (arith, nat_tests)
+-- the slot at a ring's head is that of its first record
+pub ring_ahead : {R : Type 0} (xs : List (Slot R)) (c k : ℕ) (r : Ring) (s : Slot R) → s ≡ get_or xs (place c k r.head 0) s → k < 16 → 0 < r.count → r.count ≤ c → 16 * c ≤ length xs → Ahead xs c k r s
+ring_ahead xs c k r s q l z u w = record {
+  known = l;
+  some = z;
+  pairs =
+      ap (map pair_of) (reads_first xs c k r.head r.count s l z u w)
+      ∙ ap (λ t. pair_of t ∷ map pair_of (reads xs (place c k ((r.head + 1) % c)) (r.count - 1))) (sym q);
+}
 
-  -- a link with room is one of the sixteen, and its ring is not full
-  pub roomy : has_room (ringed c xs rs delay longest) k ≡ true → (k < 16) × ((get_or rs k blank).count < c)
-  roomy h =
-      let l : k < 16 = grind (arith, nat_tests) in
-      (l, (let e = ringed_room l in grind (arith, nat_tests)))
+-- an empty ring has no record
+pub ring_empty : {R : Type 0} (xs : List (Slot R)) (c k : ℕ) (r : Ring) → r.count ≡ 0 → (ring_link xs c k r).pairs ≡ []
+ring_empty xs c k r z = ap (λ n. map pair_of (reads xs (place c k r.head) n)) z
 
-  -- the pairs of a link that holds some: the slot at its head, and the others from the next head
-  pairs_first : (s : Slot R) → k < 16 → 0 < min (get_or rs k blank).count c → s ≡ get_or xs (place c k (get_or rs k blank).head 0) s →
-      ((ringed c xs rs delay longest).links k).pairs ≡ pair_of s ∷ map pair_of (reads xs (place c k (((get_or rs k blank).head + 1) % c)) (min (get_or rs k blank).count c - 1))
-  pairs_first s l z q =
-      ap (map pair_of) (reads_first xs c k (get_or rs k blank).head (min (get_or rs k blank).count c) s l z (omega arith) fit)
-      ∙ ap (λ (t : Slot R). pair_of t ∷ map pair_of (reads xs (place c k (((get_or rs k blank).head + 1) % c)) (min (get_or rs k blank).count c - 1))) (sym q)
-
-  pub ringed_waiting : (m : ℕ) (s : Slot R) → k < 16 → m < limit → 0 < min (get_or rs k blank).count c → s ≡ get_or xs (place c k (get_or rs k blank).head 0) s →
-      is_waiting (ringed c xs rs delay longest) k m ≡ leb s.arrival m
-  ringed_waiting m s l e z q = let first = ap (λ ps. arrived ps m) (pairs_first s l z q) in grind (arith, nat_tests)
-
-  -- an empty ring has nothing to hand out
-  pub ringed_empty : (m : ℕ) → min (get_or rs k blank).count c ≡ 0 → is_waiting (ringed c xs rs delay longest) k m ≡ false
-  ringed_empty m z =
-      let none : arrived ((ringed c xs rs delay longest).links k).pairs m ≡ false = ap (λ n. arrived (map pair_of (reads xs (place c k (get_or rs k blank).head) n)) m) z in
-      grind (arith, nat_tests)
-
-  -- where a record waits, the link is one of the sixteen, and its ring holds some
-  pub wait_tells : (m : ℕ) → is_waiting (ringed c xs rs delay longest) k m ≡ true → (k < 16) × (0 < min (get_or rs k blank).count c)
-  wait_tells m h = (grind (arith, nat_tests), ⊎_elim (λ p. p) (λ p. absurd (let e = ringed_empty m (omega arith) in let z : ◌≡◌ {A = ℕ} 0 1 = cc in omega arith)) (cases_lt 0 (min (get_or rs k blank).count c)))
+module _ {R : Type 0} (c : ℕ) (xs : List (Slot R)) (rs : List Ring) (delay : ℕ → ℕ → ℕ) (longest k : ℕ) where
+  -- a link has room while its ring is not full
+  pub ringed_room : k < 16 → (get_or rs k blank).count ≤ c → 16 * c ≤ length xs → has_room (ringed c xs rs delay longest) k ≡ ltb (get_or rs k blank).count c
+  ringed_room l u w = let e = ring_length xs c k (get_or rs k blank).head (get_or rs k blank).count l u w in simp length-map (grind (arith, nat_tests))
 
   -- a take leaves a ring without its oldest record
-  pub ringed_taken : (m : ℕ) (s : Slot R) (r : Ring) → r ≡ ring_taken (get_or rs k blank) c → is_waiting (ringed c xs rs delay longest) k m ≡ true → k < 16 → k < length rs →
-      0 < min (get_or rs k blank).count c → s ≡ get_or xs (place c k (get_or rs k blank).head 0) s →
+  pub ringed_taken : (m : ℕ) (s : Slot R) (r : Ring) → Ahead xs c k (get_or rs k blank) s → r ≡ ring_taken (get_or rs k blank) c → m < limit → s.arrival ≤ m → k < length rs →
       Taken (ringed c xs rs delay longest) (ringed c xs (set rs k r) delay longest) k m s.item
-  ringed_taken m s r er w l b z q =
+  ringed_taken m s r h er e a b =
       let new : get_or (set rs k r) k blank ≡ ring_taken (get_or rs k blank) c = get_or-set_same rs k r blank b ∙ er in
-      let count : min (min (get_or rs k blank).count c - 1) c ≡ min (get_or rs k blank).count c - 1 = omega arith in
-      let rest : ((ringed c xs (set rs k r) delay longest).links k).pairs ≡ map pair_of (reads xs (place c k (((get_or rs k blank).head + 1) % c)) (min (get_or rs k blank).count c - 1)) =
-      ap (λ (t : Ring). map pair_of (reads xs (place c k t.head) (min t.count c))) new ∙ ap (λ n. map pair_of (reads xs (place c k (((get_or rs k blank).head + 1) % c)) n)) count in
       record {
-        waited = w;
+        waited = (let first = ap (λ ps. arrived ps m) h.pairs in grind (arith, nat_tests));
         arrival = s.arrival;
-        pairs = pairs_first s l z q ∙ ap (λ ps. pair_of s ∷ ps) (sym rest);
-        last = ap (λ (t : Ring). option_map capped t.last) new;
+        pairs = h.pairs ∙ ap (λ (t : Ring). pair_of s ∷ (ring_link xs c k t).pairs) (sym new);
+        last = ap (λ (t : Ring). t.last) new;
         only = record {
           others = λ j ne. ap (ring_link xs c j) (get_or-set_other rs k j r blank ne);
           capacity = refl;
@@ -181,55 +161,59 @@ module _ {R : Type 0} (c : ℕ) (xs : List (Slot R)) (rs : List Ring) (delay : �
       }
 
   -- a send leaves a ring with one record more
-  ringed_added : (m d : ℕ) (x : R) (delay' : ℕ → ℕ → ℕ) → k < 16 → k < length rs → m < limit → (get_or rs k blank).count < c → d ≤ longest → Next delay delay' k d →
+  ringed_added : (m d : ℕ) (x : R) (delay' : ℕ → ℕ → ℕ) → k < 16 → k < length rs → m < limit → (get_or rs k blank).count < c → unwrap_or (get_or rs k blank).last 0 ≤ limit → 16 * c ≤ length xs →
+      d ≤ longest → Next delay delay' k d →
       Sent (ringed c xs rs delay longest)
       (ringed c (set xs (place c k (get_or rs k blank).head (get_or rs k blank).count) (record { arrival = capped (earliest (m + d) (get_or rs k blank).last); item = x }))
       (set rs k (ring_sent (get_or rs k blank) (capped (earliest (m + d) (get_or rs k blank).last)))) delay' longest) k m x
-  ringed_added m d x delay' l b e room w next =
+  ringed_added m d x delay' l b e room early fit w next =
       let r = get_or rs k blank in
       let a = capped (earliest (m + d) (get_or rs k blank).last) in
       let v : Slot R = record { arrival = capped (earliest (m + d) (get_or rs k blank).last); item = x } in
       let new = get_or-set_same rs k (ring_sent r a) blank b in
-      let all : min (r.count + 1) c ≡ r.count + 1 = omega arith in
-      let old : r.count ≡ min r.count c = omega arith in
       record {
-        accepted = (let h = ringed_room l in grind (arith, nat_tests));
+        accepted = (let h = ringed_room l (omega arith) fit in grind (arith, nat_tests));
         added = record {
           arrival = a;
-          follows = sent_follows m d longest e r.last ∙ ap (λ t. earliest (capped (m + t)) (option_map capped r.last)) next.value;
-          after = sent_after m d longest e r.last;
-          before = sent_before m d longest e r.last w;
+          follows = sent_follows m d longest r.last e early ∙ ap (λ t. earliest (capped (m + t)) r.last) next.value;
+          after = sent_after m d longest r.last e early;
+          before = sent_before m d longest r.last e early w;
           cap = omega arith;
           pairs =
-              ap (λ (t : Ring). map pair_of (reads (set xs (place c k r.head r.count) v) (place c k t.head) (min t.count c))) new
-              ∙ ap (λ n. map pair_of (reads (set xs (place c k r.head r.count) v) (place c k r.head) n)) all
+              ap (λ (t : Ring). (ring_link (set xs (place c k r.head r.count) v) c k t).pairs) new
               ∙ ap (map pair_of) (reads_sent xs c k r.head r.count v l room fit)
-              ∙ map-append pair_of (reads xs (place c k r.head) r.count) (v ∷ [])
-              ∙ ap (λ n. map pair_of (reads xs (place c k r.head) n) ++ ((a, x) ∷ [])) old;
-          last = (let twice : capped a ≡ a = omega arith in ap (λ (t : Ring). option_map capped t.last) new ∙ ap (λ t. Some t) twice);
+              ∙ map-append pair_of (reads xs (place c k r.head) r.count) (v ∷ []);
+          last = ap (λ (t : Ring). t.last) new;
         };
         only = record {
           others = λ j ne.
               ap (ring_link (set xs (place c k r.head r.count) v) c j) (get_or-set_other rs k j (ring_sent r a) blank ne)
-              ∙ ap (λ (t : List (Slot R)). record { pairs = map pair_of t; last = option_map capped (get_or rs j blank).last })
-              (reads_apart xs c k r.head r.count v j (get_or rs j blank).head (min (get_or rs j blank).count c) (omega arith) ne);
+              ∙ ap (λ (t : List (Slot R)). record { pairs = map pair_of t; last = (get_or rs j blank).last })
+              (reads_apart xs c k r.head r.count v j (get_or rs j blank).head (get_or rs j blank).count (omega arith) ne);
           capacity = refl;
           longest = refl;
         };
         formula = ap delayed next.after;
       }
 
-  -- the same of values that are known by equations
-  pub ringed_sent : (m d : ℕ) (x : R) (delay' : ℕ → ℕ → ℕ) (c' slot a longest' : ℕ) (r : Ring) →
-      c' ≡ c → slot ≡ place c k (get_or rs k blank).head (get_or rs k blank).count → a ≡ capped (earliest (m + d) (get_or rs k blank).last) → r ≡ ring_sent (get_or rs k blank) a → longest' ≡ longest →
-      k < 16 → k < length rs → m < limit → (get_or rs k blank).count < c → d ≤ longest → Next delay delay' k d →
-      Sent (ringed c xs rs delay longest) (ringed c' (set xs slot (record { arrival = a; item = x })) (set rs k r) delay' longest') k m x
-  ringed_sent m d x delay' c' slot a longest' r ec es ea er el l b e room w next = rw (er, ec, es, ea, el) (ringed_added m d x delay' l b e room w next)
+-- the same of values that are known by equations
+pub rings_sent : {R : Type 0} (xs : List (Slot R)) (rs : List Ring) (delay delay' : ℕ → ℕ → ℕ) (longest longest' k m d p j t slot a : ℕ) (x : R) (r : Ring) →
+    slot ≡ place p j (get_or rs k blank).head (get_or rs k blank).count → a ≡ capped (earliest (m + t) (get_or rs k blank).last) → r ≡ ring_sent (get_or rs k blank) a → longest' ≡ longest →
+    t ≡ d → j ≡ k → p ≡ ring_size (length xs) → k < 16 → k < length rs → m < limit → (get_or rs k blank).count < p → unwrap_or (get_or rs k blank).last 0 ≤ limit → d ≤ longest → Next delay delay' k d →
+    Sent (ringed (ring_size (length xs)) xs rs delay longest)
+    (ringed (ring_size (length (set xs slot (record { arrival = a; item = x })))) (set xs slot (record { arrival = a; item = x })) (set rs k r) delay' longest') k m x
+rings_sent xs rs delay delay' longest longest' k m d p j t slot a x r es ea er el em ej ep l b e room early w next =
+    let room' : (get_or rs k blank).count < ring_size (length xs) = omega arith in
+    let fit : 16 * ring_size (length xs) ≤ length xs = omega arith in
+    let ec : ring_size (length (set xs slot (record { arrival = a; item = x }))) ≡ ring_size (length xs) = simp length-set in
+    rw (er, ec, es, ea, el, em, ej, ep) (ringed_added (ring_size (length xs)) xs rs delay longest k m d x delay' l b e room' early fit w next)
+
+-- an unused network is known by its delays
+pub unused_same : {R : Type 0} (n : Net R) (slots longest longest' : ℕ) (delay delay' : ℕ → ℕ → ℕ) → n ≡ unused slots delay longest → delay ≡ delay' → longest ≡ longest' → n ≡ unused slots delay' longest'
+unused_same n slots longest longest' delay delay' h d l = h ∙ ap (λ (f : ℕ → ℕ → ℕ). unused slots f longest) d ∙ ap (unused slots delay') l
 
 -- empty rings make an unused network
 pub ringed_fresh : {R : Type 0} (xs : List (Slot R)) (delay : ℕ → ℕ → ℕ) (longest : ℕ) → ringed (ring_size (length xs)) xs (replicate 16 blank) delay longest ≡ unused (length xs) delay longest
-ringed_fresh {R} xs delay longest =
-    let c = ring_size (length xs) in
-    let z : min 0 (ring_size (length xs)) ≡ 0 = omega arith in
-    ap (λ (ls : ℕ → Link R). record { links = ls; capacity = c; longest = capped longest; formula = delayed delay })
-    (fun_ext (λ k. ap (ring_link xs c k) (get_or_replicate_everywhere 16 blank k) ∙ ap (λ n. record { pairs = map pair_of (reads xs (place c k 0) n); last = None }) z))
+ringed_fresh xs delay longest =
+    ap (λ (ls : ℕ → Link _). record { links = ls; capacity = ring_size (length xs); longest = capped longest; formula = delayed delay })
+    (fun_ext (λ k. ap (ring_link xs (ring_size (length xs)) k) (get_or_replicate_everywhere 16 blank k)))

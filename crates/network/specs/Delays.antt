@@ -1,5 +1,5 @@
 -- Where a network that has a formula takes its delays from: one for each link, or a recorded list.
-use Rattle.std.specs.Prelude.{◌≡◌, ℕ, suc, ◌+◌, ◌%◌, max, cond, List, [], ◌∷◌, length, ◌==◌, slice_index}
+use Rattle.std.specs.Prelude.{◌≡◌, ℕ, suc, ◌+◌, ◌%◌, max, if◌then◌else◌, List, [], ◌∷◌, length, ◌==◌, slice_index}
 use Rattle.network.specs.declared.delays.Recording.{Recording}
 
 -- the greatest of some delays, 0 of none
@@ -29,4 +29,4 @@ recorded_longest s = greatest s.delays.now
 -- the next delay of a link is handed out, and its record counts as accepted
 pub record Next (delay delay' : (link nth : ℕ) → ℕ) (k d : ℕ) : Type 0 where
   pub value : d ≡ delay k 0
-  pub after : delay' ≡ (λ j nth. delay j (cond (j == k) (suc nth) nth))
+  pub after : delay' ≡ (λ j nth. delay j (if j == k then suc nth else nth))

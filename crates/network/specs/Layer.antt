@@ -1,5 +1,5 @@
 -- A layer over any network: a network again, whose arrivals are those of the one below, moved on.
-use Rattle.std.specs.Prelude.{◌≡◌, ℕ, ◌+◌, ◌-◌, ◌*◌, ◌/◌, ◌≤◌, max, ◌&&◌, map, nat_le, nat_lt}
+use Rattle.std.specs.Prelude.{ℕ, ◌+◌, ◌-◌, ◌*◌, ◌/◌, ◌<◌, ◌≤◌, max, map, Option, Some, None}
 use Rattle.std.specs.Option.{option_map}
 use Rattle.network.specs.Network.{Link, Net, limit, capped}
 
@@ -41,6 +41,18 @@ gap g = max g 1
 abbrev pub polled : {R : Type 0} → ℕ → Net R → Net R
 polled g = layered (poll_at (gap g)) (gap g - 1)
 
--- b is the moment to ask the network below at: what has come there by b is what, moved on, has come here by m
-abbrev pub Before : (ℕ → ℕ) → (m b : ℕ) → Type 0
-Before f m b = (a : ℕ) → (nat_lt m limit && nat_le (f a) m) ≡ (nat_lt b limit && nat_le a b)
+-- to ask below at b is to ask here at m: both are moments, and what arrives there by b is what arrives here by m
+pub record AskAt (f : ℕ → ℕ) (m b : ℕ) : Type 0 where
+  pub moment : m < limit
+  pub early : b < limit
+  pub arrives : (a : ℕ) → a ≤ b → f a ≤ m
+  pub only : (a : ℕ) → f a ≤ m → a ≤ b
+
+-- there is nothing to ask for: m is no moment, or nothing arrives here by m
+pub record AskNever (f : ℕ → ℕ) (m : ℕ) : Type 0 where
+  pub none : (a : ℕ) → m < limit → m < f a
+
+-- when to ask the network below for what has arrived here by m
+abbrev pub Before : (ℕ → ℕ) → ℕ → Option ℕ → Type 0
+Before f m None = AskNever f m
+Before f m (Some b) = AskAt f m b

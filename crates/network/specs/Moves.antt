@@ -1,13 +1,13 @@
 -- What a layer that moves arrivals on keeps of the network below it, once for every such layer.
 use Rattle.std.specs.Prelude.{◌≡◌, ℕ, ◌+◌, ◌-◌, ◌*◌, ◌/◌, ◌%◌, ◌<◌, ◌≤◌, max, true, ◌&&◌, List, [], ◌∷◌, map, Some, None, Ok, Err, Option, Result, nat_lt}
 use Rattle.std.proofs.lemmas.List.{map-append, length-map}
-use Rattle.std.proofs.Common.{⊎_elim, ap, ◌∙◌, add-mul, arith}
+use Rattle.std.proofs.Common.{refl, false, ⊎_elim, ap, ◌∙◌, add-mul, arith}
 use Rattle.std.proofs.lemmas.Nat.{div-add-mod', mod_below, le-div, div_below, mul-le}
 use Rattle.std.proofs.lemmas.Bool.{cases_lt}
 use Rattle.std.proofs.lemmas.Bool.Decides.{nat_tests}
 use Rattle.std.specs.Option.{option_map}
 use Rattle.network.specs.Network.{Net, limit, capped, has_room, accepts, arrived, is_waiting, earliest, Follows, Only, Sends, Takes}
-use Rattle.network.specs.Layer.{moved, layered, Moves, gap, hop_at, poll_at, Before}
+use Rattle.network.specs.Layer.{moved, layered, Moves, AskAt, AskNever, gap, hop_at, poll_at}
 
 module _ (f : ℕ → ℕ) (x : ℕ) (v : Moves f x) where
   -- the bounds of an arrival are moved with it
@@ -76,14 +76,26 @@ module _ {R : Type 0} (f : ℕ → ℕ) (x : ℕ) where
   }
 
   -- what has come above by m has come below by b
-  arrived_moved : (m b : ℕ) → Before f m b → (ps : List (ℕ × R)) → (nat_lt m limit && arrived (map (λ p. (f p.0, p.1)) ps) m) ≡ (nat_lt b limit && arrived ps b)
-  arrived_moved m b q [] = grind (arith, nat_tests)
-  arrived_moved m b q (p ∷ ps) = q p.0
+  pub arrived_moved : (m b : ℕ) → AskAt f m b → (ps : List (ℕ × R)) → arrived (map (λ p. (f p.0, p.1)) ps) m ≡ arrived ps b
+  arrived_moved m b q [] = refl
+  arrived_moved m b q (p ∷ ps) = grind (arith, nat_tests, q.arrives p.0, q.only p.0)
 
-  pub waiting_moved : (n : Net R) (k m b : ℕ) → Before f m b → is_waiting (layered f x n) k m ≡ is_waiting n k b
+  pub waiting_moved : (n : Net R) (k m b : ℕ) → AskAt f m b → is_waiting (layered f x n) k m ≡ is_waiting n k b
   waiting_moved n k m b q = let e = arrived_moved m b q (n.links k).pairs in grind (arith, nat_tests)
 
-  pub takes_moved : (n n' : Net R) (k m b : ℕ) → Before f m b → (o : Option R) → Takes n k b o n' → Takes (layered f x n) k m o (layered f x n')
+  -- where nothing arrives above by m, none waits there and none is taken
+  pub none_arrived : (m : ℕ) (ps : List (ℕ × R)) → AskNever f m → m < limit → arrived (map (λ p. (f p.0, p.1)) ps) m ≡ false
+  none_arrived m [] q h = refl
+  none_arrived m (p ∷ ps) q h = grind (arith, nat_tests, q.none p.0)
+
+  none_waits : (n : Net R) (k m : ℕ) → AskNever f m → is_waiting (layered f x n) k m ≡ false
+  none_waits n k m q = let e = none_arrived m (n.links k).pairs q in grind (arith, nat_tests)
+
+  pub none_taken : (n : Net R) (k m : ℕ) (o : Option R) → AskNever f m → o ≡ None → Takes (layered f x n) k m o (layered f x n)
+  none_taken n k m None q h = record { none = none_waits n k m q; same = refl }
+  none_taken n k m (Some y) q h = cc
+
+  pub takes_moved : (n n' : Net R) (k m b : ℕ) → AskAt f m b → (o : Option R) → Takes n k b o n' → Takes (layered f x n) k m o (layered f x n')
   takes_moved n n' k m b q None h = record { none = waiting_moved n k m b q ∙ h.none; same = ap (layered f x) h.same }
   takes_moved n n' k m b q (Some y) h = record {
     waited = waiting_moved n k m b q ∙ h.waited;
@@ -139,5 +151,10 @@ round_down g m a h p =
     let r : (a + (g - 1)) / g * g ≤ m / g * g = mul-le ((a + (g - 1)) / g) g (m / g) g q (omega arith) in
     omega (arith, div-add-mod' m g, round_low g a h)
 
-pub poll_before : (g m : ℕ) → 0 < g → m < limit → Before (poll_at g) m (m - m % g)
-poll_before g m h p a = grind (arith, nat_tests, round_up g m a h, round_down g m a h)
+pub poll_before : (g m b : ℕ) → 0 < g → m < limit → b ≡ m - m % g → AskAt (poll_at g) m b
+poll_before g m b h p e = record {
+  moment = p;
+  early = omega arith;
+  arrives = λ a l. omega (arith, round_up g m a h (omega arith));
+  only = λ a l. omega (arith, round_down g m a h (omega arith));
+}

@@ -1,6 +1,6 @@
 -- What a network means: sixteen links, each with the records on their way, and how its calls change that.
 -- The code speaks of it through the ghost member `meaning` of the trait `Network`.
-use Rattle.std.specs.Prelude.{◌≡◌, ℕ, suc, ◌+◌, ◌^◌, ◌≤◌, min, max, Bool, true, false, cond, ◌&&◌, List, [], ◌∷◌, ◌++◌, length, IfSome, Some, None, Ok, Err, Option, Result, ◌==◌, ◌≢◌, nat_le, nat_lt}
+use Rattle.std.specs.Prelude.{◌≡◌, ℕ, suc, ◌+◌, ◌^◌, ◌≤◌, min, max, Bool, true, false, if◌then◌else◌, ◌&&◌, List, [], ◌∷◌, ◌++◌, length, IfSome, Some, None, Ok, Err, Option, Result, ◌==◌, ◌≢◌, nat_le, nat_lt}
 use Rattle.std.specs.Option.{unwrap_or}
 
 -- moments are below this
@@ -79,7 +79,7 @@ pub record Only {R : Type 0} (n n' : Net R) (k : ℕ) : Type 0 where
 
 -- the formula once one more record was accepted on a link
 abbrev pub counted : Formula → ℕ → Formula
-counted f k = λ j i. f j (cond (j == k) (suc i) i)
+counted f k = λ j i. f j (if j == k then suc i else i)
 
 -- an accepted send
 pub record Sent {R : Type 0} (n n' : Net R) (k m : ℕ) (x : R) : Type 0 where

@@ -1,11 +1,10 @@
 -- Sixteen rings of equal size in one list of slots, as a network.
-use Rattle.std.specs.Prelude.{ℕ, zero, suc, ◌+◌, min, List, [], ◌++◌, map, length, take, drop, Some, slice_index_or}
-use Rattle.std.specs.Option.{option_map}
+use Rattle.std.specs.Prelude.{◌≡◌, ℕ, zero, suc, ◌+◌, ◌<◌, List, [], ◌∷◌, ◌++◌, map, length, take, drop, Option, Some, None, slice_index_or}
 use Rattle.network.specs.declared.ring.Ring.{Ring}
 use Rattle.network.specs.declared.rings.Rings.{Rings}
 use Rattle.network.specs.declared.rings.Slot.{Slot}
 use Rattle.network.specs.Network.{Link, Net, Formula, capped, idle}
-use Rattle.network.specs.Ring.{ring_size, place, blank}
+use Rattle.network.specs.Ring.{ring_size, ring_taken, place, blank}
 
 -- what lies at the places p 0, p 1, .., n of them
 abbrev pub reads : {X : Type 0} → List X → (ℕ → ℕ) → ℕ → List X
@@ -15,12 +14,23 @@ reads xs p (suc n) = take 1 (drop (p 0) xs) ++ reads xs (λ i. p (suc i)) n
 abbrev pub pair_of : {R : Type 0} → Slot R → ℕ × R
 pair_of s = (s.arrival, s.item)
 
--- the link of a ring. A count past the ring's size counts as the size, and a last arrival past 2^48 as that
+-- the link of a ring
 abbrev pub ring_link : {R : Type 0} → List (Slot R) → (size link : ℕ) → Ring → Link R
 ring_link slots size k r = record {
-  pairs = map pair_of (reads slots (place size k r.head) (min r.count size));
-  last = option_map capped r.last;
+  pairs = map pair_of (reads slots (place size k r.head) r.count);
+  last = r.last;
 }
+
+-- the slot of a link's first record, which is ahead of those that its ring has without it
+pub record Ahead {R : Type 0} (slots : List (Slot R)) (size k : ℕ) (r : Ring) (s : Slot R) : Type 0 where
+  pub known : k < 16
+  pub some : 0 < r.count
+  pub pairs : (ring_link slots size k r).pairs ≡ pair_of s ∷ (ring_link slots size k (ring_taken r size)).pairs
+
+-- the slot of a link's first record, if there is such a link and it has one
+abbrev pub First : {R : Type 0} → List (Slot R) → (size link : ℕ) → Ring → Option (Slot R) → Type 0
+First slots size k r None = k < 16 → (ring_link slots size k r).pairs ≡ []
+First slots size k r (Some s) = Ahead slots size k r s
 
 -- a formula with these delays: the delay after the moment
 abbrev pub delayed : ((link nth : ℕ) → ℕ) → Formula

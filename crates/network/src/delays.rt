@@ -14,7 +14,8 @@ pub trait Delays {
     fn longest(&self) -> u32
         ensures { result ≡ longest self.now };
 
-    // The delay of the record that a link accepts now.
+    // The delay of the record that a link accepts now, 0 where there is no such link. No `Option`: a network asks only for
+    // a link that it has, and would take it apart for nothing.
     fn next(&mut self, link: usize) -> u32
         ensures link { link < 16 → Next (delay self.old) (delay self.new) link result }
         ensures none { 16 ≤ link → (result ≡ 0) × (self.new ≡ self.old) }
@@ -32,12 +33,9 @@ impl Delays for [u32; LINKS] {
         greatest_of(self)
     }
 
+    #[tactic(auto, using(crate::proofs::Entries::within_greatest))]
     fn next(&mut self, link: usize) -> u32 {
-        if link < LINKS {
-            delay_at(self, link)
-        } else {
-            0
-        }
+        self.get(link).copied().unwrap_or(0)
     }
 }
 
@@ -79,16 +77,8 @@ impl<'a> Delays for Recording<'a> {
     }
 }
 
-// One of some delays.
-fn delay_at(delays: &[u32], at: usize) -> u32
-    requires { at < length delays.now }
-    ensures value { result ≡ slice_index delays.now at }
-    ensures within { result ≤ greatest delays.now }
-{
-    delays[at]
-}
-
 // The delay at a place of a list that starts anew at its end, 0 of an empty one.
+#[tactic(auto, using(crate::proofs::Entries::entry_none, crate::proofs::Entries::within_greatest))]
 fn entry_at(delays: &[u32], at: usize) -> u32
     ensures value { result ≡ entry delays.now at }
     ensures within { result ≤ greatest delays.now }
@@ -96,7 +86,7 @@ fn entry_at(delays: &[u32], at: usize) -> u32
     if delays.is_empty() {
         0
     } else {
-        delay_at(delays, at % delays.len())
+        delays[at % delays.len()]
     }
 }
 
@@ -111,9 +101,5 @@ fn following(at: usize, len: usize) -> usize
 fn greatest_of(delays: &[u32]) -> u32
     ensures { result ≡ greatest delays.now }
 {
-    let mut most = 0u32;
-    for delay in delays {
-        most = most.max(*delay);
-    }
-    most
+    delays.iter().copied().max().unwrap_or(0)
 }

@@ -10,6 +10,7 @@ use crate::rings::{Rings, Slot};
 pub type Fixed<'a, R> = Rings<'a, R, [u32; LINKS]>;
 
 impl<'a, R> Fixed<'a, R> {
+    // `Trace::new` is alike, but takes its delays as one list; one `new` for both would ask callers for a `Recording`.
     pub fn new(slots: &'a mut [Slot<R>], delays: [u32; LINKS]) -> Fixed<'a, R>
         ensures net { rings_net fixed_delay greatest result ≡ unused (length slots.old) (fixed_delay delays) (greatest delays) }
         ensures idle { Unused (rings_net fixed_delay greatest result) }

@@ -10,7 +10,8 @@ use crate::network::{END, Network};
 pub type Hop<N> = Layer<N, Later>;
 
 impl<N> Hop<N> {
-    // An unused network below makes an unused one.
+    // An unused network below makes an unused one. `Poll::new` is alike: one `new` for
+    // both would promise by what a `From<u32>` gives.
     pub fn new<R>(below: N, extra: u32) -> Hop<N>
     where
         N: Network<R>,
@@ -38,11 +39,10 @@ impl Shift for Later {
         self.extra
     }
 
-    fn before(&self, moment: u64) -> u64 {
-        let extra = u64::from(self.extra);
-        if moment >= END || moment < extra {
-            return END;
+    fn before(&self, moment: u64) -> Option<u64> {
+        if moment >= END {
+            return None;
         }
-        moment - extra
+        moment.checked_sub(u64::from(self.extra))
     }
 }

@@ -1,6 +1,5 @@
 ghost use Rattle.std.specs.Prelude.{◌≡◌, ℕ};
 ghost use Rattle.network.specs.Layer.{Before, Moves, layered};
-ghost use Rattle.network.specs.Network.{Sends, Takes, has_room};
 
 use crate::network::{END, Network};
 
@@ -14,8 +13,8 @@ pub trait Shift {
     fn most(&self) -> u32
         ensures { result ≡ most self.now };
 
-    // By when a record has to arrive below to arrive above by `moment`, or `END` where none can.
-    fn before(&self, moment: u64) -> u64
+    // By when a record has to arrive below to arrive above by `moment`, or `None` where none can.
+    fn before(&self, moment: u64) -> Option<u64>
         ensures { Before (moves self.now) moment result };
 
     ghost ordered: { (s : Self) → Moves (moves s) (most s) };
@@ -36,6 +35,7 @@ impl<N, S> Layer<N, S> {
     }
 }
 
+// Each call asks below, and is proved by the lemma that says what moving arrivals on keeps of that call.
 impl<R, N: Network<R>, S: Shift> Network<R> for Layer<N, S> {
     ghost meaning = { λ l. layered (S.Shift.moves l.shift) (S.Shift.most l.shift) (N.Network.meaning l.below) };
 
@@ -47,51 +47,27 @@ impl<R, N: Network<R>, S: Shift> Network<R> for Layer<N, S> {
         (self.below.longest_delay() + u64::from(self.shift.most())).min(END)
     }
 
+    #[tactic(auto, using(crate::specs::Moves::room_moved))]
     fn room(&self, link: usize) -> bool {
-        room_through(&self.shift, &self.below, link)
+        self.below.room(link)
     }
 
+    #[tactic(auto, using(crate::specs::Moves::sends_moved))]
     fn send(&mut self, link: usize, moment: u64, item: R) -> Result<(), R> {
-        send_through(&self.shift, &mut self.below, link, moment, item)
+        self.below.send(link, moment, item)
     }
 
+    #[tactic(auto, using(crate::specs::Moves::arrived_moved, crate::specs::Moves::none_arrived))]
     fn waiting(&self, link: usize, moment: u64) -> bool {
-        self.below.waiting(link, self.shift.before(moment))
+        match self.shift.before(moment) {
+            Some(earlier) => self.below.waiting(link, earlier),
+            None => false,
+        }
     }
 
+    #[tactic(auto, using(crate::specs::Moves::takes_moved, crate::specs::Moves::none_taken))]
     fn take(&mut self, link: usize, moment: u64) -> Option<R> {
-        take_through(&self.shift, &mut self.below, link, moment)
+        let earlier = self.shift.before(moment)?;
+        self.below.take(link, earlier)
     }
-}
-
-// The calls on the network below, by what they mean through a shift. Room and a send ask nothing of the shift: it is
-// passed for the contract to speak of.
-fn room_through<R, N: Network<R>, S: Shift>(_shift: &S, below: &N, link: usize) -> bool
-    ensures { result ≡ has_room (layered (S.Shift.moves _shift.now) (S.Shift.most _shift.now) (N.Network.meaning below.now)) link }
-{
-    below.room(link)
-}
-
-fn send_through<R, N: Network<R>, S: Shift>(
-    _shift: &S,
-    below: &mut N,
-    link: usize,
-    moment: u64,
-    item: R,
-) -> Result<(), R>
-    ensures { Sends (layered (S.Shift.moves _shift.now) (S.Shift.most _shift.now) (N.Network.meaning below.old)) link moment item result (layered (S.Shift.moves _shift.now) (S.Shift.most _shift.now) (N.Network.meaning below.new)) }
-{
-    below.send(link, moment, item)
-}
-
-fn take_through<R, N: Network<R>, S: Shift>(
-    shift: &S,
-    below: &mut N,
-    link: usize,
-    moment: u64,
-) -> Option<R>
-    ensures { Takes (layered (S.Shift.moves shift.now) (S.Shift.most shift.now) (N.Network.meaning below.old)) link moment result (layered (S.Shift.moves shift.now) (S.Shift.most shift.now) (N.Network.meaning below.new)) }
-{
-    let earlier = shift.before(moment);
-    below.take(link, earlier)
 }

@@ -8,6 +8,7 @@ mod fixed;
 mod hop;
 mod layer;
 mod network;
+mod part;
 mod poll;
 mod ring;
 mod rings;

@@ -10,7 +10,7 @@ use crate::network::{END, Network};
 pub type Poll<N> = Layer<N, RoundUp>;
 
 impl<N> Poll<N> {
-    // An unused network below makes an unused one.
+    // An unused network below makes an unused one. `Hop::new` says why each has a `new`.
     pub fn new<R>(below: N, gap: u32) -> Poll<N>
     where
         N: Network<R>,
@@ -46,11 +46,12 @@ impl Shift for RoundUp {
         self.step() - 1
     }
 
-    fn before(&self, moment: u64) -> u64 {
+    #[tactic(auto, using(crate::specs::Moves::poll_before))]
+    fn before(&self, moment: u64) -> Option<u64> {
         if moment >= END {
-            return END;
+            return None;
         }
-        last_multiple(u64::from(self.step()), moment)
+        Some(last_multiple(u64::from(self.step()), moment))
     }
 }
 

@@ -1,11 +1,6 @@
 use crate::{END, Fixed, Hop, LINKS, Network, Poll, Slot, Trace};
 use std::process::Abort;
 
-const FREE: Slot<u32> = Slot {
-    arrival: 0,
-    item: 0,
-};
-
 // That the first record of a link arrives just then, and is this one.
 fn arrives<N: Network<u32>>(rt: &impl Abort, net: &mut N, link: usize, moment: u64, item: u32) {
     assert!(rt; !net.waiting(link, moment.saturating_sub(1)), "too early");
@@ -15,12 +10,12 @@ fn arrives<N: Network<u32>>(rt: &impl Abort, net: &mut N, link: usize, moment: u
 
 #[test]
 fn layers_move_arrivals_in_their_order(rt: HostRuntime) {
-    let mut slots = [FREE; 32];
+    let mut slots = [Slot::default(); 32];
     let mut polled = Poll::new(Hop::new(Fixed::new(&mut slots, [5; LINKS]), 4), 8);
     assert_eq!(rt; polled.longest_delay(), 16);
     assert_eq!(rt; polled.send(0, 100, 7), Ok(()));
     arrives(&rt, &mut polled, 0, 112, 7);
-    let mut slots = [FREE; 32];
+    let mut slots = [Slot::default(); 32];
     let mut hopped = Hop::new(Poll::new(Fixed::new(&mut slots, [5; LINKS]), 8), 4);
     assert_eq!(rt; hopped.send(0, 100, 7), Ok(()));
     arrives(&rt, &mut hopped, 0, 116, 7);
@@ -28,7 +23,7 @@ fn layers_move_arrivals_in_their_order(rt: HostRuntime) {
 
 #[test]
 fn a_full_link_hands_back_and_disturbs_no_other(rt: HostRuntime) {
-    let mut slots = [FREE; 32];
+    let mut slots = [Slot::default(); 32];
     let mut net = Fixed::new(&mut slots, [5; LINKS]);
     assert_eq!(rt; net.send(3, 10, 1), Ok(()));
     assert_eq!(rt; net.send(3, 4, 2), Ok(()), "does not overtake");
@@ -44,7 +39,7 @@ fn a_full_link_hands_back_and_disturbs_no_other(rt: HostRuntime) {
 
 #[test]
 fn a_trace_starts_anew(rt: HostRuntime) {
-    let mut slots = [FREE; 128];
+    let mut slots = [Slot::default(); 128];
     let mut net = Trace::new(&mut slots, &[1, 20, 300]);
     assert_eq!(rt; net.longest_delay(), 300);
     for k in 0..7u32 {
@@ -63,36 +58,33 @@ fn a_trace_starts_anew(rt: HostRuntime) {
 
 #[test]
 fn an_empty_trace_delays_nothing(rt: HostRuntime) {
-    let mut slots = [FREE; 16];
+    let mut slots = [Slot::default(); 16];
     let mut net = Trace::new(&mut slots, &[]);
     assert_eq!(rt; net.longest_delay(), 0);
     assert_eq!(rt; net.send(0, 5, 1), Ok(()));
     arrives(&rt, &mut net, 0, 5, 1);
 }
 
-// The capacity in so many slots. With none, a send hands its record back.
-fn capacity_of(slots: &mut [Slot<u32>]) -> usize {
+// The capacity in so many slots. A send hands its record back just where there is none.
+fn capacity_of(rt: &impl Abort, slots: &mut [Slot<u32>]) -> usize {
     let mut net = Fixed::new(slots, [0; LINKS]);
     let capacity = net.capacity();
-    if net.send(0, 0, 1).is_ok() {
-        capacity
-    } else {
-        0
-    }
+    assert_eq!(rt; net.send(0, 0, 1).is_ok(), capacity > 0);
+    capacity
 }
 
 #[test]
 fn capacity_is_a_sixteenth_up_to_64(rt: HostRuntime) {
-    assert_eq!(rt; capacity_of(&mut [FREE; 1040]), 64);
-    assert_eq!(rt; capacity_of(&mut [FREE; 1023]), 63);
-    assert_eq!(rt; capacity_of(&mut [FREE; 16]), 1);
-    assert_eq!(rt; capacity_of(&mut [FREE; 15]), 0);
-    assert_eq!(rt; capacity_of(&mut [FREE; 0]), 0);
+    assert_eq!(rt; capacity_of(&rt, &mut [Slot::default(); 1040]), 64);
+    assert_eq!(rt; capacity_of(&rt, &mut [Slot::default(); 1023]), 63);
+    assert_eq!(rt; capacity_of(&rt, &mut [Slot::default(); 16]), 1);
+    assert_eq!(rt; capacity_of(&rt, &mut [Slot::default(); 15]), 0);
+    assert_eq!(rt; capacity_of(&rt, &mut [Slot::default(); 0]), 0);
 }
 
 #[test]
 fn limits_are_kept(rt: HostRuntime) {
-    let mut slots = [FREE; 32];
+    let mut slots = [Slot::default(); 32];
     let mut net = Poll::new(
         Hop::new(Fixed::new(&mut slots, [u32::MAX; LINKS]), u32::MAX),
         u32::MAX,

@@ -10,6 +10,7 @@ use crate::rings::{Rings, Slot};
 pub type Trace<'a, 'd, R> = Rings<'a, R, Recording<'d>>;
 
 impl<'a, 'd, R> Trace<'a, 'd, R> {
+    // `Fixed::new` says why each has a `new`.
     pub fn new(slots: &'a mut [Slot<R>], delays: &'d [u32]) -> Trace<'a, 'd, R>
         ensures net { rings_net recorded_delay recorded_longest result ≡ unused (length slots.old) (λ _ nth. entry delays.now nth) (greatest delays.now) }
         ensures idle { Unused (rings_net recorded_delay recorded_longest result) }

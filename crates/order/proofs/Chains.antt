@@ -7,6 +7,8 @@ use Rattle.order.specs.declared.call.Call.{Call}
 use Rattle.order.specs.declared.event.Event.{Event}
 use Rattle.order.specs.Booking.{BookedOver, Books, Desk}
 use Rattle.order.specs.Run.{Run, Step, call_of}
+use Rattle.order.specs.Venue.{SameVenue}
+use Rattle.order.specs.declared.venue.Venue.{Venue}
 
 -- the newest event comes first once a list is turned round
 newest_first : (old new : List Event) (e : Event) → new ≡ old ++ e ∷ [] → reverse new ≡ e ∷ reverse old
@@ -25,3 +27,12 @@ calls_more calls i d old new e h p q r =
 -- where two worlds are one, so are sessions opened over their networks, stop-clocks and lists
 pub opened_alike : (plan : Plan) (v w : World) → v ≡ w → opened plan v.forward v.reverse v.clock v.points v.tape ≡ opened plan w.forward w.reverse w.clock w.points w.tape
 opened_alike plan v w e = ap (λ (u : World). opened plan u.forward u.reverse u.clock u.points u.tape) e
+
+-- what is lent through two calls is what was lent before them
+pub same_more : {F R C : Type 0} {v u w : Venue F R C} → SameVenue v u → SameVenue u w → SameVenue v w
+same_more s t = record {
+  forward = t.forward ∙ s.forward;
+  reverse = t.reverse ∙ s.reverse;
+  clock = t.clock ∙ s.clock;
+  book = t.book ∙ s.book;
+}

@@ -1,6 +1,6 @@
 -- What the law speaks of, read off the calls' moments and answers alone, and never off tags. Histories are the newest
 -- first.
-use Rattle.std.specs.Prelude.{◌≡◌, ℕ, ◌+◌, ◌-◌, Bool, cond, ◌&&◌, ◌⊎◌, List, [], ◌∷◌, Ok, Err, ◌==◌, nat_le, nat_lt}
+use Rattle.std.specs.Prelude.{◌≡◌, ℕ, ◌+◌, ◌-◌, Bool, if◌then◌else◌, ◌&&◌, ◌⊎◌, List, [], ◌∷◌, Ok, Err, ◌==◌, nat_le, nat_lt}
 use Rattle.records.specs.declared.batch.Batch.{Batch}
 use Rattle.records.specs.declared.message.Kind.TheVariants as kind
 use Rattle.records.specs.declared.trade.Trade.{Trade}
@@ -15,7 +15,7 @@ pub record Delivery : Type 0 where
 -- the accepted delivers to a seat
 abbrev pub deliveries : List Event → ℕ → List Delivery
 deliveries [] k = []
-deliveries (event.Deliver t j (Ok b) ∷ es) k = cond (k == j) ((record { moment = t; batch = b }) ∷ deliveries es k) (deliveries es k)
+deliveries (event.Deliver t j (Ok b) ∷ es) k = if k == j then (record { moment = t; batch = b }) ∷ deliveries es k else deliveries es k
 deliveries (event.Deliver t j (Err e) ∷ es) k = deliveries es k
 deliveries (event.Point t x r ∷ es) k = deliveries es k
 deliveries (event.Seal t r ∷ es) k = deliveries es k
@@ -42,7 +42,7 @@ holds b p = nat_le b.first p && nat_lt p (b.first + b.count)
 -- the moment at which a point reached the seat: that of the deliver which answered the batch that holds it
 abbrev pub reached : List Delivery → ℕ → ℕ
 reached [] p = 0
-reached (d ∷ ds) p = cond (holds d.batch p) d.moment (reached ds p)
+reached (d ∷ ds) p = if holds d.batch p then d.moment else reached ds p
 
 -- An accepted submit: its trade, with the batch of the seat's last accepted deliver before it and the true time since
 -- that deliver in the place of a tag; and its response, the time since its trigger reached the seat.

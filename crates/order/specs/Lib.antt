@@ -1,3 +1,4 @@
+pub mod Venue
 pub mod Run
 pub mod History
 pub mod Law

@@ -1,7 +1,8 @@
 use records::Offer;
 
-// One call of a session, with its moment and its arguments.
-#[derive(Clone, Copy)]
+// One call of a session, with its moment and its arguments. It is a value and no closure, since the law speaks of lists of
+// calls.
+#[derive(Clone, Copy, Debug, PartialEq, Eq)]
 pub enum Call {
     Point { at: u64, value: u64 },
     Seal { at: u64 },

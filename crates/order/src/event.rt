@@ -1,15 +1,19 @@
+ghost use Rattle.std.specs.Prelude.{◌≡◌};
+ghost use Rattle.order.specs.Run.{call_of};
+
+use crate::call::Call;
 use book::Booked;
 use records::{Batch, Kind, Line, Offer, Refusal};
 
 // What became of a trade that was released: its line on the tape, and what the book made of it.
-#[derive(Clone, Copy)]
+#[derive(Clone, Copy, Debug, PartialEq, Eq)]
 pub struct Outcome {
     pub line: Line,
     pub booked: Booked,
 }
 
 // A call that was made, with its answer.
-#[derive(Clone, Copy)]
+#[derive(Clone, Copy, Debug, PartialEq, Eq)]
 pub enum Event {
     Point {
         at: u64,
@@ -49,4 +53,27 @@ pub enum Event {
     Release {
         answer: Result<Outcome, Refusal>,
     },
+}
+
+impl Event {
+    // The call that was made.
+    pub fn call(&self) -> Call
+        ensures { result ≡ call_of self.now }
+    {
+        match *self {
+            Event::Point { at, value, .. } => Call::Point { at, value },
+            Event::Seal { at, .. } => Call::Seal { at },
+            Event::Deliver { at, seat, .. } => Call::Deliver { at, seat },
+            Event::Submit {
+                at,
+                seat,
+                offer,
+                ..
+            } => Call::Submit { at, seat, offer },
+            Event::Beat { at, seat, .. } => Call::Beat { at, seat },
+            Event::End { at, seat, .. } => Call::End { at, seat },
+            Event::Collect { at, seat, .. } => Call::Collect { at, seat },
+            Event::Release { .. } => Call::Release,
+        }
+    }
 }

@@ -7,9 +7,11 @@ mod call;
 mod event;
 mod performing;
 mod playing;
+mod venue;
 
 pub use acting::act;
 pub use call::Call;
 pub use event::{Event, Outcome};
 pub use performing::perform;
 pub use playing::{Played, play};
+pub use venue::Venue;

@@ -6,11 +6,13 @@ ghost use Rattle.session.specs.World.{world};
 ghost use Rattle.order.specs.Booking.{desk};
 ghost use Rattle.order.specs.Law.{Law, SomeSettles};
 ghost use Rattle.order.specs.Play.{Plays, StartsFresh};
+ghost use Rattle.order.specs.Venue.{SameVenue};
 
 use crate::call::Call;
 use crate::event::Event;
 use crate::performing::perform;
-use book::{Book, Fill};
+use crate::venue::Venue;
+use book::Fill;
 use clock::StopClock;
 use lines::Lines;
 use network::Network;
@@ -30,44 +32,31 @@ pub struct Played {
 pub fn play<F: Network<Batch>, R: Network<Message>, C: StopClock>(
     heap: Global,
     layout: Layout,
-    forward: &mut F,
-    reverse: &mut R,
-    clock: &mut C,
+    venue: &mut Venue<F, R, C>,
     points: &mut Lines<u64>,
     tape: &mut Lines<Line>,
-    book: &mut Book,
     fills: &mut Lines<Fill>,
     calls: &[Call],
 ) -> Result<Played, AllocError>
     ensures played { MatchResult result
         (λ x. Plays calls.now
-        (opened (plan layout) (F.Network.meaning forward.old) (R.Network.meaning reverse.old) (C.StopClock.meaning clock.old) (page points.old) (page tape.old))
-        (desk book.old (page fills.old))
+        (opened (plan layout) (F.Network.meaning venue.old.forward.now) (R.Network.meaning venue.old.reverse.now) (C.StopClock.meaning venue.old.clock.now) (page points.old) (page tape.old))
+        (desk venue.old.book.now (page fills.old))
         x.events.items
-        (world x.session.state (F.Network.meaning forward.new) (R.Network.meaning reverse.new) (C.StopClock.meaning clock.new) (page points.new) (page tape.new))
-        (desk book.new (page fills.new)))
-        (λ _. (opened (plan layout) (F.Network.meaning forward.new) (R.Network.meaning reverse.new) (C.StopClock.meaning clock.new) (page points.new) (page tape.new)
-        ≡ opened (plan layout) (F.Network.meaning forward.old) (R.Network.meaning reverse.old) (C.StopClock.meaning clock.old) (page points.old) (page tape.old))
-        × (desk book.new (page fills.new) ≡ desk book.old (page fills.old))) }
-    ensures fresh { StartsFresh (opened (plan layout) (F.Network.meaning forward.old) (R.Network.meaning reverse.old) (C.StopClock.meaning clock.old) (page points.old) (page tape.old)) }
+        (world x.session.state (F.Network.meaning venue.new.forward.now) (R.Network.meaning venue.new.reverse.now) (C.StopClock.meaning venue.new.clock.now) (page points.new) (page tape.new))
+        (desk venue.new.book.now (page fills.new)))
+        (λ _. (opened (plan layout) (F.Network.meaning venue.new.forward.now) (R.Network.meaning venue.new.reverse.now) (C.StopClock.meaning venue.new.clock.now) (page points.new) (page tape.new)
+        ≡ opened (plan layout) (F.Network.meaning venue.old.forward.now) (R.Network.meaning venue.old.reverse.now) (C.StopClock.meaning venue.old.clock.now) (page points.old) (page tape.old))
+        × (desk venue.new.book.now (page fills.new) ≡ desk venue.old.book.now (page fills.old))) }
+    ensures fresh { StartsFresh (opened (plan layout) (F.Network.meaning venue.old.forward.now) (R.Network.meaning venue.old.reverse.now) (C.StopClock.meaning venue.old.clock.now) (page points.old) (page tape.old)) }
     ensures law { Law }
     ensures settles { SomeSettles }
+    ensures venue { SameVenue venue.old venue.new }
     ensures points { points.new.lines.ghost_name ≡ points.old.lines.ghost_name }
     ensures tape { tape.new.lines.ghost_name ≡ tape.old.lines.ghost_name }
     ensures fills { fills.new.lines.ghost_name ≡ fills.old.lines.ghost_name }
 {
     let mut session = layout.open();
-    let events = perform(
-        heap,
-        &mut session,
-        forward,
-        reverse,
-        clock,
-        points,
-        tape,
-        book,
-        fills,
-        calls,
-    )?;
+    let events = perform(heap, &mut session, venue, points, tape, fills, calls)?;
     Ok(Played { session, events })
 }

@@ -1,5 +1,5 @@
 -- How a call is refused: its checks run in the order written, and the first that fails names the refusal.
-use Rattle.std.specs.Prelude.{◌≡◌, Bool, cond, List, [], ◌∷◌, Some, None, Ok, Err, Option, Result}
+use Rattle.std.specs.Prelude.{◌≡◌, Bool, if◌then◌else◌, List, [], ◌∷◌, Some, None, Ok, Err, Option, Result}
 use Rattle.records.specs.declared.refusal.Refusal.{Refusal}
 
 -- what makes a call fail, and how it is then refused
@@ -10,7 +10,7 @@ pub record Check : Type 0 where
 -- the first check that fails, if one does
 abbrev pub first_failed : List Check → Option Refusal
 first_failed [] = None
-first_failed (c ∷ cs) = cond c.fails (Some c.refused) (first_failed cs)
+first_failed (c ∷ cs) = if c.fails then Some c.refused else first_failed cs
 
 -- no check fails
 abbrev pub Passed : List Check → Type 0

@@ -1,8 +1,11 @@
 ghost use Rattle.std.specs.Prelude.{◌≡◌};
 ghost use Rattle.records.specs.Flaw.{flaw_number};
 
+use std::error::Error;
+use std::fmt;
+
 // Why a layout could not be changed.
-#[derive(Clone, Copy)]
+#[derive(Clone, Copy, Debug, PartialEq, Eq)]
 pub enum Flaw {
     // The horizon is 0 or too long.
     Horizon,
@@ -13,7 +16,7 @@ pub enum Flaw {
 }
 
 impl Flaw {
-    // The flaw's number.
+    // The flaw's number, which the rules give each.
     pub fn number(&self) -> u32
         ensures { result ≡ flaw_number self.now }
     {
@@ -24,3 +27,20 @@ impl Flaw {
         }
     }
 }
+
+impl fmt::Display for Flaw {
+    ghost use Rattle.std.specs.Prelude.{Some};
+    ghost use Rattle.records.specs.Flaw.{flaw_reason};
+
+    ghost output = { λ flaw. Some (flaw_reason flaw) };
+
+    fn fmt<W: fmt::Write>(&self, f: &mut fmt::Formatter<W>) -> fmt::Result {
+        f.pad(match *self {
+            Flaw::Horizon => "the horizon is 0 or too long",
+            Flaw::Window => "the window is not longer than the horizon, or is too long",
+            Flaw::Seats => "there are as many seats as there may be",
+        })
+    }
+}
+
+impl Error for Flaw {}

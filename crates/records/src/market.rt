@@ -5,7 +5,7 @@ use crate::batch::Batch;
 
 // How far the market data has come: the points so far, those of them in the open batch, the batches sealed, and the moment
 // of the last seal.
-#[derive(Clone, Copy)]
+#[derive(Clone, Copy, Debug, PartialEq, Eq)]
 pub struct Market {
     pub points: u32,
     pub unsealed: u32,
@@ -18,10 +18,8 @@ impl Market {
     pub fn sealed_lately(&self, window: u64, at: u64) -> bool
         ensures { result ≡ sealed_lately self.now window at }
     {
-        match self.last_seal {
-            Some(sealed) => at.saturating_sub(sealed) < window,
-            None => false,
-        }
+        self.last_seal
+            .is_some_and(|sealed| at.saturating_sub(sealed) < window)
     }
 
     // The open batch, with the number that it will have.

@@ -5,15 +5,16 @@ use crate::tag::{Tag, Watermark};
 use crate::trade::Trade;
 
 // What a seat sends to the exchange.
-#[derive(Clone, Copy)]
+#[derive(Clone, Copy, Debug, Default, PartialEq, Eq)]
 pub enum Message {
     Trade(Trade),
     Beat(Tag),
+    #[default]
     End,
 }
 
 // What `collect` answers of the message that it took.
-#[derive(Clone, Copy)]
+#[derive(Clone, Copy, Debug, PartialEq, Eq)]
 pub enum Kind {
     Trade,
     Beat,
@@ -21,6 +22,7 @@ pub enum Kind {
 }
 
 impl Message {
+    // What `collect` answers of it. A `From` would say less: `message.kind()` names what it gives.
     pub fn kind(&self) -> Kind
         ensures { result ≡ kind_of self.now }
     {

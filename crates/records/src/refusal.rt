@@ -1,15 +1,18 @@
 ghost use Rattle.std.specs.Prelude.{◌≡◌};
 ghost use Rattle.records.specs.Refusal.{spelled};
 
+use std::error::Error;
+use std::fmt;
+
 // Which of the two networks a refusal is about.
-#[derive(Clone, Copy)]
+#[derive(Clone, Copy, Debug, PartialEq, Eq)]
 pub enum Direction {
     Forward,
     Reverse,
 }
 
 // Why a call was refused.
-#[derive(Clone, Copy)]
+#[derive(Clone, Copy, Debug, PartialEq, Eq)]
 pub enum Refusal {
     // The moment is before that of the last accepted call, or is none. The seat is the one given, if any.
     BadMoment { seat: Option<usize> },
@@ -54,7 +57,7 @@ pub enum Refusal {
 }
 
 impl Refusal {
-    // The refusal's number.
+    // The refusal's number, which the rules give each.
     pub fn number(&self) -> u32
         ensures { result ≡ (spelled self.now).number }
     {
@@ -121,7 +124,7 @@ impl Refusal {
         }
     }
 
-    // The batch that it names, or 0.
+    // The batch that it names, or 0. By the rules it is a number, as a seat without a delivery names batch 0 too.
     pub fn batch(&self) -> u32
         ensures { result ≡ (spelled self.now).batch }
     {
@@ -134,3 +137,41 @@ impl Refusal {
         }
     }
 }
+
+// The reason alone: the seat and the batch are asked for by `seat` and `batch`.
+impl fmt::Display for Refusal {
+    ghost use Rattle.std.specs.Prelude.{Some};
+    ghost use Rattle.records.specs.Refusal.{reason};
+
+    ghost output = { λ refusal. Some (reason refusal) };
+
+    fn fmt<W: fmt::Write>(&self, f: &mut fmt::Formatter<W>) -> fmt::Result {
+        f.pad(match *self {
+            Refusal::BadMoment { .. } =>
+                "the moment is before that of the last accepted call, or is none",
+            Refusal::NoSeat { .. } => "there is no such seat",
+            Refusal::Ended { .. } => "the seat has ended",
+            Refusal::BatchFull => "the open batch is full",
+            Refusal::PointsFull => "there is no room for another point",
+            Refusal::BatchEmpty => "the open batch is empty",
+            Refusal::SealedLately => "less than the window has passed since the last seal",
+            Refusal::ForwardFull { .. } => "the seat's forward link has no room",
+            Refusal::NoBatch { .. } => "no batch is waiting for the seat",
+            Refusal::ServedLately { .. } =>
+                "less than the horizon has passed since the seat's last delivery",
+            Refusal::Bare { .. } => "the seat had no delivery yet",
+            Refusal::BadTrigger { .. } => "the trigger is no point that was delivered to the seat",
+            Refusal::BadOrder { .. } => "the price or the quantity is out of range",
+            Refusal::TradesSpent { .. } => "the seat has had all the trades that it may have",
+            Refusal::TooManyPending { .. } =>
+                "as many of the seat's trades as may be are not released",
+            Refusal::ReverseFull { .. } => "the seat's reverse link has no room",
+            Refusal::NoMessage { .. } => "no message of the seat is waiting",
+            Refusal::BufferEmpty => "the buffer is empty",
+            Refusal::HeldUp { .. } => "the seat holds the buffer's first trade up",
+            Refusal::TapeFull => "the tape has no free line",
+        })
+    }
+}
+
+impl Error for Refusal {}

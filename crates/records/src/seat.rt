@@ -21,15 +21,16 @@ const MOST_TRADES: u32 = 1_000_000;
 const MOST_PENDING: u32 = 16;
 
 // A seat is bare until its first delivery, then served, until it ends.
-#[derive(Clone, Copy)]
+#[derive(Clone, Copy, Debug, PartialEq, Eq)]
 pub enum Condition {
     Bare,
     Served,
     Ended,
 }
 
-// The calls that a seat takes or refuses by its condition.
-#[derive(Clone, Copy)]
+// The calls that a seat takes or refuses by its condition. They are values: `turn` says what becomes of a seat, and runs
+// nothing.
+#[derive(Clone, Copy, Debug, PartialEq, Eq)]
 pub enum SeatCall {
     Deliver,
     Submit,
@@ -38,8 +39,10 @@ pub enum SeatCall {
 }
 
 // One member's record: the last batch and the last point delivered, how many of its trades were submitted, collected and
-// released, and how far its messages are known.
-#[derive(Clone, Copy)]
+// released, and how far its messages are known. The batch and the point are no part of the condition: an ended seat keeps
+// them, and a bare one's tag reads them as 0. The seat's number is its place in the session's table and no field, which would
+// say it twice; so calls that name it in a refusal are given both.
+#[derive(Clone, Copy, Debug, PartialEq, Eq)]
 pub struct Seat {
     pub condition: Condition,
     pub batch: u32,
@@ -62,10 +65,7 @@ impl Seat {
             submitted: 0,
             collected: 0,
             released: 0,
-            watermark: Watermark::At(Tag {
-                batch: 0,
-                elapsed: 0,
-            }),
+            watermark: Watermark::At(Tag::default()),
         }
     }
 
@@ -87,10 +87,7 @@ impl Seat {
     pub fn ended(&self) -> bool
         ensures { result ≡ is_ended self.now.condition }
     {
-        match self.condition {
-            Condition::Bare | Condition::Served => false,
-            Condition::Ended => true,
-        }
+        self.condition == Condition::Ended
     }
 
     // Whether a served seat takes an offer.
@@ -134,6 +131,14 @@ impl Seat {
             }),
             _ => Ok(()),
         }
+    }
+
+    // The seat's tag so long after its last delivery.
+    pub fn tag(&self, elapsed: u64) -> Tag
+        ensures { result ≡ record { batch = self.now.batch; elapsed = elapsed } }
+    {
+        let batch = self.batch;
+        Tag { batch, elapsed }
     }
 
     // A batch is delivered: the seat is in this condition now, and knows the batch and its last point.

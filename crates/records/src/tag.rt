@@ -1,8 +1,9 @@
 ghost use Rattle.std.specs.Prelude.{◌≡◌};
 ghost use Rattle.records.specs.Tag.{above, is_top, tag_below};
 
-// A seat's delivery clock: the last batch delivered to it, or 0, and the time since by its stop-clock.
-#[derive(Clone, Copy)]
+// A seat's delivery clock: the last batch delivered to it, or 0, and the time since by its stop-clock. Tags compare by
+// batch, then by elapsed. By the rules 0 stands for no batch, which puts such a tag below all others.
+#[derive(Clone, Copy, Debug, Default, PartialEq, Eq, PartialOrd, Ord)]
 pub struct Tag {
     pub batch: u32,
     pub elapsed: u64,
@@ -13,15 +14,12 @@ impl Tag {
     pub fn below(&self, other: &Tag) -> bool
         ensures { result ≡ tag_below self.now other.now }
     {
-        if self.batch != other.batch {
-            return self.batch < other.batch;
-        }
-        self.elapsed < other.elapsed
+        self < other
     }
 }
 
-// How far the messages of a seat have been collected. `Top` is above every tag.
-#[derive(Clone, Copy)]
+// How far the messages of a seat have been collected. `Top` is above every tag, where the `None` of an `Option` would be below.
+#[derive(Clone, Copy, Debug, PartialEq, Eq, PartialOrd, Ord)]
 pub enum Watermark {
     At(Tag),
     Top,
@@ -32,19 +30,13 @@ impl Watermark {
     pub fn above(&self, tag: &Tag) -> bool
         ensures { result ≡ above self.now tag.now }
     {
-        match *self {
-            Watermark::At(mark) => tag.below(&mark),
-            Watermark::Top => true,
-        }
+        *self > Watermark::At(*tag)
     }
 
     // Whether nothing at all is to come.
     pub fn is_top(&self) -> bool
         ensures { result ≡ is_top self.now }
     {
-        match *self {
-            Watermark::At(_) => false,
-            Watermark::Top => true,
-        }
+        *self == Watermark::Top
     }
 }

@@ -7,7 +7,7 @@ use book::{Booked, Order, Party, Side};
 use heap::Ranked;
 
 // An order on its way to the book. Serials count the trades of a seat from 1; the trigger is the point that it answers.
-#[derive(Clone, Copy)]
+#[derive(Clone, Copy, Debug, Default, PartialEq, Eq)]
 pub struct Trade {
     pub seat: usize,
     pub serial: u32,
@@ -18,8 +18,8 @@ pub struct Trade {
     pub quantity: u32,
 }
 
-// What trades rank by.
-#[derive(Clone, Copy)]
+// What trades rank by: the tag, then the seat, then the serial.
+#[derive(Clone, Copy, Debug, PartialEq, Eq, PartialOrd, Ord)]
 pub struct DeliveryKey {
     pub tag: Tag,
     pub seat: usize,
@@ -44,21 +44,12 @@ impl Ranked for Trade {
     }
 
     fn precedes(&self, other: &Trade) -> bool {
-        if self.tag.batch != other.tag.batch {
-            return self.tag.batch < other.tag.batch;
-        }
-        if self.tag.elapsed != other.tag.elapsed {
-            return self.tag.elapsed < other.tag.elapsed;
-        }
-        if self.seat != other.seat {
-            return self.seat < other.seat;
-        }
-        self.serial <= other.serial
+        self.key_of() <= other.key_of()
     }
 }
 
 impl Trade {
-    // The order that the trade is to the book.
+    // The order that the trade is to the book. A `From` would say less: `trade.order()` names what it gives.
     pub fn order(&self) -> Order
         ensures { result ≡ order_of self.now }
     {
@@ -77,11 +68,6 @@ impl Trade {
     pub fn dropped(&self) -> Booked
         ensures { result ≡ rejected self.now }
     {
-        Booked {
-            filled: 0,
-            rested: 0,
-            dropped: self.quantity,
-            fills: 0,
-        }
+        Booked::all_dropped(self.quantity)
     }
 }

@@ -1,11 +1,11 @@
 -- The seats' counts agree with the buffer at the start, and still do after each change of a seat or of the buffer. So
 -- each trade there is of a seat, and the buffer has room for any that is yet to be collected.
-use Rattle.std.proofs.Common.{◌≡◌, ℕ, zero, suc, ◌+◌, ◌*◌, ◌<◌, ◌≤◌, true, cond, ◌&&◌, eqb, ltb, leb, List, [], ◌∷◌, length, get_or, set, replicate, count_by, sym, refl, ap, ◌∙◌, subst, ⊎_elim, arith, length-set, get_or-set_other, get_or-set_same}
-use Rattle.std.proofs.lemmas.List.{length-replicate, get_or-replicate, get_or_past}
+use Rattle.std.proofs.Common.{◌≡◌, ℕ, zero, suc, ◌+◌, ◌*◌, ◌<◌, ◌≤◌, true, cond, ◌&&◌, eqb, ltb, leb, List, [], ◌∷◌, length, get_or, set, count_by, sym, refl, ap, ◌∙◌, subst, ⊎_elim, arith, length-set, get_or-set_other, get_or-set_same}
+use Rattle.std.proofs.lemmas.List.{get_or_past}
 use Rattle.std.specs.List.Sorted.{IsPermutation}
 use Rattle.std.specs.List.{ContainsAt, AllByRecursion}
-use Rattle.std.proofs.ByRecursion.{all-has, all_shuffled, has_shuffled}
-use Rattle.std.proofs.lemmas.List.Sorted.{IsPermutation-sym, sum_by-IsPermutation}
+use Rattle.std.proofs.ByRecursion.{all-has, all_shuffled}
+use Rattle.std.proofs.lemmas.List.Sorted.{sum_by-IsPermutation}
 use Rattle.std.proofs.lemmas.List.Sums.{get_or-le-sum_by, sum_by-cons}
 use Rattle.std.proofs.lemmas.Bool.{and_parts, cases_Bool, cases_eq, cases_lt, eqb-true, leb-true}
 use Rattle.std.proofs.lemmas.Bool.Decides.{nat_tests, when_false, when_true}
@@ -15,7 +15,7 @@ use Rattle.records.specs.declared.seat.Seat.{Seat}
 use Rattle.records.specs.declared.tag.Watermark.{Watermark}
 use Rattle.records.specs.declared.trade.Trade.{Trade}
 use Rattle.records.specs.Seat.{is_next}
-use Rattle.records.specs.Seat.{blank, collected_with, released_once, submitted_once}
+use Rattle.records.specs.Seat.{blank, collected_with, released_once}
 use Rattle.records.specs.Offer.{most_pending, most_trades}
 use Rattle.session.specs.Balance.{FewPending, FewTrades, SentFirst, Tallied, buffer_room, of_seat}
 use Rattle.session.specs.Collect.{Put}
@@ -106,24 +106,10 @@ balanced_set seats buffer buffer' k s b known own others =
           (cases_eq j k);
     }
 
--- new seats are balanced
-pub balanced_new : (n : ℕ) → n ≤ most_seats → Balanced (replicate n blank) []
-balanced_new n few = record {
-  few = let long = length-replicate n blank in omega arith;
-  known = tt;
-  tallied = λ k lt. let long = length-replicate n blank in subst (λ (s : Seat). Counts s 0) (sym (get_or-replicate n k blank blank (omega arith))) (record { in_buffer = refl; sent = omega arith; pending = omega arith; most = omega arith });
-}
-
 -- a seat's record may change in all but its counts
 pub balanced_same : (seats : List Seat) (buffer : List Trade) (k : ℕ) (s : Seat) → Balanced seats buffer → s.submitted ≡ (get_or seats k blank).submitted → s.collected ≡ (get_or seats k blank).collected → s.released ≡ (get_or seats k blank).released → Balanced (set seats k s) buffer
 balanced_same seats buffer k s b e₁ e₂ e₃ = balanced_set seats buffer buffer k s b b.known
     (λ lt. let t = b.tallied k lt in record { in_buffer = omega arith; sent = omega arith; pending = omega arith; most = omega arith })
-    (λ _ _. refl)
-
--- a trade was submitted
-pub balanced_submit : (seats : List Seat) (buffer : List Trade) (k : ℕ) → k < length seats → (get_or seats k blank).submitted < most_trades → (get_or seats k blank).submitted < (get_or seats k blank).released + most_pending → Balanced seats buffer → Balanced (set seats k (submitted_once (get_or seats k blank))) buffer
-balanced_submit seats buffer k lt more room b = balanced_set seats buffer buffer k (submitted_once (get_or seats k blank)) b b.known
-    (λ _. let t = b.tallied k lt in record { in_buffer = t.in_buffer; sent = omega arith; pending = omega arith; most = omega arith })
     (λ _ _. refl)
 
 -- a trade was collected, and went into the buffer
@@ -181,10 +167,6 @@ held_known seats buffer x held b =
     let at = ap (one k) (held.2 x) in
     let some = get_or-le-sum_by (one k) buffer held.0 x held.1 in
     (lt, omega arith)
-
--- so is the one that is released first
-pub first_known : (seats : List Seat) (buffer : List Trade) (x : Trade) (others : List Trade) → IsPermutation buffer (x ∷ others) → Balanced seats buffer → (x.seat < length seats) × ((get_or seats x.seat blank).released < most_trades)
-first_known seats buffer x others all = held_known seats buffer x (has_shuffled (x ∷ others) buffer x (IsPermutation-sym buffer (x ∷ others) all) (0, omega arith, λ _. refl))
 
 -- 1 for a seat before the given one
 abbrev before_one : (n a : ℕ) → ℕ

@@ -1,8 +1,8 @@
 -- Dealing a batch out seat by seat, and looking for the lowest number that passes a test.
-use Rattle.std.proofs.Common.{◌≡◌, ℕ, zero, suc, ◌+◌, ◌<◌, Bool, true, false, cond, not, ◌&&◌, eqb, ltb, List, length, get_or, Some, None, Option, sym, refl, ap, ◌∙◌, subst, ⊎_elim, add-one, arith}
+use Rattle.std.proofs.Common.{◌≡◌, ℕ, zero, suc, ◌+◌, ◌<◌, Bool, true, false, cond, not, ◌&&◌, eqb, ltb, List, length, get_or, Some, None, Option, sym, refl, ap, ◌∙◌, subst, ⊎_elim, arith}
 use Rattle.std.proofs.lemmas.Bool.{cases_eq, cases_lt, cond-false, cond-true, eq-eqb, ne_eqb}
 use Rattle.std.proofs.lemmas.Bool.Decides.{nat_tests}
-use Rattle.network.specs.Network.{Net, Link, Added, Sent, accepts, has_room, limit}
+use Rattle.network.specs.Network.{Net, Link, Added, Sent, has_room}
 use Rattle.records.specs.declared.batch.Batch.{Batch}
 use Rattle.records.specs.declared.seat.Seat.{Seat}
 use Rattle.records.specs.Seat.{blank, is_ended}
@@ -11,10 +11,6 @@ use Rattle.session.specs.Seal.{Dealt, DealtLink, SentIf, crowded, lowest}
 -- what was found below a number, or else the number if it passed
 abbrev or_passed : ℕ → Bool → Option ℕ → Option ℕ
 or_passed n passed o = elim o [ Some j ↦ Some j | None ↦ cond passed (Some n) None ]
-
--- where none was found, and the next does not pass, there is none
-pub lowest_more : (test : ℕ → Bool) (k : ℕ) → lowest test k ≡ None → test k ≡ false → lowest test (k + 1) ≡ None
-lowest_more test k none is = ap (lowest test) (add-one k) ∙ ap (or_passed k (test k)) none ∙ cond-false (test k) (Some k) None is
 
 -- the first that passes is the lowest, however far one looks
 pub lowest_found : (test : ℕ → Bool) (k n : ℕ) → lowest test k ≡ None → test k ≡ true → k < n → lowest test n ≡ Some k
@@ -111,12 +107,3 @@ dealt_one seats n m m' k t b h s = by_case (not (is_ended (get_or seats k blank)
         let now : due_first seats (k + 1) k ≡ false = grind (arith, nat_tests) in
         subst (λ (x : Net Batch). Dealt (due_first seats (k + 1)) n x t b) (sym s)
         (dealt_same (due_first seats k) (due_first seats (k + 1)) n m t b (λ j. ⊎_elim (λ e. ap (due_first seats (k + 1)) e ∙ now ∙ sym (due_not_yet seats k) ∙ ap (due_first seats k) (sym e)) (others j) (cases_eq j k)) h)
-
--- the link of the next seat still has its room
-pub next_accepts : (seats : List Seat) (n m : Net Batch) (k t : ℕ) (b : Batch) → k < length seats → t < limit → crowded seats n k ≡ false → Dealt (due_first seats k) n m t b → not (is_ended (get_or seats k blank).condition) ≡ true → accepts m k t ≡ true
-next_accepts seats n m k t b lt timely free h here =
-    let link : m.links k ≡ n.links k = link_kept (due_first seats k k) (n.formula k 0 t) n.longest (n.links k) (m.links k) t b (due_not_yet seats k) (h.links k) in
-    let used : length (m.links k).pairs ≡ length (n.links k).pairs = ap (λ (l : Link Batch). length l.pairs) link in
-    let free-here : (not (is_ended (get_or seats k blank).condition) && not (has_room n k)) ≡ false = sym (crowded_inside seats n k lt) ∙ free in
-    let room : has_room n k ≡ true = grind (arith, nat_tests) in
-    grind (arith, nat_tests)

@@ -1,4 +1,3 @@
 pub mod Checking
 pub mod Balance
-pub mod Heads
 pub mod Dealing

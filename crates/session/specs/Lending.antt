@@ -5,4 +5,4 @@ use Rattle.records.specs.declared.seat.Seat.{Seat}
 use Rattle.session.specs.declared.state.State.{State}
 
 abbrev pub with_seat : State → ℕ → Seat → State
-with_seat s k x = record { horizon = s.horizon; window = s.window; last = s.last; market = s.market; seats = with_item s.seats k x; buffer = s.buffer }
+with_seat s k x = record { times = s.times; last = s.last; market = s.market; seats = with_item s.seats k x; buffer = s.buffer }

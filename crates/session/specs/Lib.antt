@@ -1,3 +1,4 @@
+pub mod Times
 pub mod World
 pub mod Checks
 pub mod Point

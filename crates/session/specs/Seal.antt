@@ -1,5 +1,5 @@
 -- Seal: the open batch is sent to every seat that has not ended, and an empty one is opened.
-use Rattle.std.specs.Prelude.{◌≡◌, ℕ, zero, suc, ◌+◌, Bool, true, false, cond, not, ◌&&◌, List, [], ◌∷◌, length, is_some, Some, None, Ok, Err, Option, Result, ◌==◌, nat_lt, slice_index_or}
+use Rattle.std.specs.Prelude.{◌≡◌, ℕ, zero, suc, ◌+◌, Bool, true, false, if◌then◌else◌, not, ◌&&◌, List, [], ◌∷◌, length, is_some, Some, None, Ok, Err, Option, Result, ◌==◌, nat_lt, slice_index_or}
 use Rattle.std.specs.Option.{unwrap_or}
 use Rattle.network.specs.Network.{Net, Link, Added, Sent, has_room}
 use Rattle.records.specs.declared.batch.Batch.{Batch}
@@ -23,7 +23,7 @@ crowded seats n k = due seats k && not (has_room n k)
 -- the lowest number below n that passes a test
 abbrev pub lowest : (ℕ → Bool) → ℕ → Option ℕ
 lowest test zero = None
-lowest test (suc n) = elim (lowest test n) [ Some k ↦ Some k | None ↦ cond (test n) (Some n) None ]
+lowest test (suc n) = elim (lowest test n) [ Some k ↦ Some k | None ↦ if test n then Some n else None ]
 
 -- 22, 23 and 24
 abbrev pub batch_empty_check : World → Check
@@ -56,7 +56,7 @@ pub record Dealt (due : ℕ → Bool) (n n' : Net Batch) (t : ℕ) (b : Batch) :
   pub links : (k : ℕ) → DealtLink (due k) (n.formula k 0 t) n.longest (n.links k) (n'.links k) t b
   pub capacity : n'.capacity ≡ n.capacity
   pub longest : n'.longest ≡ n.longest
-  pub formula : (k i m : ℕ) → n'.formula k i m ≡ n.formula k (cond (due k) (suc i) i) m
+  pub formula : (k i m : ℕ) → n'.formula k i m ≡ n.formula k (if due k then suc i else i) m
 
 pub record Sealed (w : World) (t number : ℕ) (v : World) : Type 0 where
   pub numbered : number ≡ w.market.batches + 1

@@ -4,7 +4,6 @@
 use Rattle.std.specs.Prelude.{ℕ, List, take, vec_items, slice_index_or}
 use Rattle.network.specs.Network.{Net}
 use Rattle.clock.specs.StopClock.{elapsed}
-use Rattle.heap.specs.Held.{held}
 use Rattle.lines.specs.Pages.{Page}
 use Rattle.records.specs.declared.batch.Batch.{Batch}
 use Rattle.records.specs.declared.line.Line.{Line}
@@ -15,6 +14,7 @@ use Rattle.records.specs.declared.tag.Tag.{Tag}
 use Rattle.records.specs.declared.trade.Trade.{Trade}
 use Rattle.records.specs.Seat.{blank}
 use Rattle.session.specs.declared.state.State.{State}
+use Rattle.session.specs.declared.times.Times as laid
 
 -- the least time between two deliveries to one seat, and between two seals
 pub record Times : Type 0 where
@@ -34,14 +34,18 @@ pub record World : Type 0 where
   pub reverse : Net Message
   pub clock : ℕ → ℕ
 
+-- the times of a layout or a session
+abbrev pub times_of : laid.Times → Times
+times_of t = record { horizon = t.horizon; window = t.window }
+
 -- the world of a session's state
 abbrev pub world : State → Net Batch → Net Message → (ℕ → ℕ) → Page ℕ → Page Line → World
 world s f r c p t = record {
-  times = record { horizon = s.horizon; window = s.window };
+  times = times_of s.times;
   last = s.last;
   market = s.market;
   seats = vec_items s.seats;
-  buffer = held s.buffer;
+  buffer = s.buffer;
   points = p;
   tape = t;
   forward = f;

@@ -1,12 +1,10 @@
-ghost use Rattle.std.specs.Prelude.{◌≡◌, ℕ, ◌^◌, ◌<◌, ◌≤◌, length, vec_capacity};
-ghost use Rattle.heap.specs.Heaps.{Heaped};
-ghost use Rattle.heap.specs.Held.{bound, held};
-ghost use Rattle.records.specs.Trade.{TradeUpto};
-ghost use Rattle.session.specs.Balance.{buffer_room};
+ghost use Rattle.std.specs.Prelude.{◌≡◌, ◌≤◌, [], replicate, vec_len, vec_capacity};
+ghost use Rattle.records.specs.Seat.{blank};
 ghost use Rattle.session.specs.Opening.{most_seats};
 
-use heap::Heap;
-use records::{Seat, Trade};
+use crate::buffer::Buffer;
+use crate::times::Times;
+use records::Seat;
 
 mod calls;
 
@@ -14,18 +12,12 @@ mod calls;
 // will ever need.
 #[derive(Drop)]
 pub struct Layout {
-    horizon: u64,
-    window: u64,
-    count: usize,
+    times: Times,
     seats: Vec<Seat>,
-    buffer: Heap<Trade>,
-    ghost some: { 1 ≤ horizon },
-    ghost apart: { horizon < window },
-    ghost near: { horizon ≤ 2 ^ 32 },
-    ghost far: { window ≤ 2 ^ 33 },
-    ghost few: { count ≤ most_seats },
-    ghost none: { length seats.items ≡ 0 },
+    buffer: Buffer,
+    ghost few: { vec_len seats ≤ most_seats },
     ghost reserved: { most_seats ≤ vec_capacity seats },
-    ghost empty: { length (held buffer) ≡ 0 },
-    ghost room: { bound buffer ≡ buffer_room },
+    // Nothing has happened yet.
+    ghost untouched: { seats.items ≡ replicate (vec_len seats) blank },
+    ghost empty: { buffer ≡ [] },
 }

@@ -4,11 +4,13 @@
 
 #![tactic(auto)]
 
+mod buffer;
 mod layout;
 mod post;
 mod session;
 mod state;
 mod ticket;
+mod times;
 
 pub use layout::Layout;
 pub use session::Session;

@@ -1,8 +1,5 @@
 ghost use Rattle.std.specs.Prelude.{◌≡◌, ◌+◌, ◌≤◌, length};
-ghost use Rattle.heap.specs.Heaps.{Heaped};
-ghost use Rattle.heap.specs.Held.{bound, held};
-ghost use Rattle.records.specs.Trade.{TradeUpto};
-ghost use Rattle.session.specs.Balance.{FewPending, FewTrades, SentFirst, Tallied, buffer_room};
+ghost use Rattle.session.specs.Balance.{FewPending, FewTrades, SentFirst, Tallied};
 ghost use Rattle.session.specs.Opening.{most_seats};
 ghost use Rattle.session.specs.Point.{points_room};
 
@@ -25,13 +22,10 @@ pub struct Session {
     state: State,
     // The seats' counts agree with the buffer, so that its room suffices.
     ghost few: { length state.seats.items ≤ most_seats },
-    ghost tallied: { Tallied state.seats.items (held state.buffer) },
+    ghost tallied: { Tallied state.seats.items state.buffer },
     ghost sent: { SentFirst state.seats.items },
     ghost pending: { FewPending state.seats.items },
     ghost trades: { FewTrades state.seats.items },
-    ghost room: { bound state.buffer ≡ buffer_room },
-    // The buffer stands by rank.
-    ghost ranked: { Heaped TradeUpto (held state.buffer) },
     // Each batch has a point at least.
     ghost points: { state.market.points ≤ points_room },
     ghost counted: { state.market.batches + state.market.unsealed ≤ state.market.points },

@@ -2,63 +2,55 @@ ghost use Rattle.std.specs.Prelude.{◌≡◌};
 ghost use Rattle.lines.specs.Pages.{page};
 ghost use Rattle.book.specs.TakeOrder.{Settled};
 ghost use Rattle.records.specs.Trade.{order_of, rejected};
-ghost use Rattle.session.specs.Ticket.{line_of};
 
 use book::{Book, Booked, Fill};
 use lines::Lines;
-use records::{Line, Trade};
+use records::Line;
 
 // A released trade that is still to be booked or rejected. It can't be let go: a program in which one is dropped is
 // refused, since places are counted from 1.
 pub struct Ticket {
-    place: u64,
-    trade: Trade,
+    line: Line,
 }
 
 impl Drop for Ticket {
     // No ticket that a release hands out meets this: it must be spent.
     fn drop(self)
-        requires { self.place ≡ 0 }
+        requires { self.line.place ≡ 0 }
     {
-        let Ticket { place: _, trade: _ } = self;
+        let Ticket { line: _ } = self;
     }
 }
 
 impl Ticket {
     // The ticket of a line.
     pub(crate) fn of(line: Line) -> Ticket
-        ensures { line_of result ≡ line }
+        ensures { result.line ≡ line }
     {
-        Ticket {
-            place: line.place,
-            trade: line.trade,
-        }
+        Ticket { line }
     }
 
     // The line of the tape that it is of.
     pub fn line(&self) -> Line
-        ensures { result ≡ line_of self.now }
+        ensures { result ≡ self.now.line }
     {
-        Line {
-            place: self.place,
-            trade: self.trade,
-        }
+        self.line
     }
 
     // Hands the order to the book.
     pub fn book(self, book: &mut Book, fills: &mut Lines<Fill>) -> Booked
-        ensures booked { Settled book.old (order_of self.trade) (page fills.old) book.new (page fills.new) result }
+        ensures booked { Settled book.old (order_of self.line.trade) (page fills.old) book.new (page fills.new) result }
         ensures same { fills.new.lines.ghost_name ≡ fills.old.lines.ghost_name }
     {
-        let Ticket { place: _, trade } = self;
-        book.take_order(trade.order(), fills)
+        let Ticket { line } = self;
+        book.take_order(line.trade.order(), fills)
     }
 
     // Drops the whole quantity.
     pub fn reject(self) -> Booked
-        ensures { result ≡ rejected self.trade }
+        ensures { result ≡ rejected self.line.trade }
     {
-        let Ticket { place: _, trade } = self;
-        trade.dropped()
+        let Ticket { line } = self;
+        line.trade.dropped()
     }
 }

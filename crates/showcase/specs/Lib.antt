@@ -1,3 +1,1 @@
-pub mod Columns
-pub mod Deals
 pub mod Race

@@ -1,13 +1,18 @@
 -- What the table of a race reads off the events.
-use Rattle.std.specs.Prelude.{ℕ, ◌-◌, cond, ◌&&◌, List, [], ◌∷◌, Some, None, Ok, Err, Option, ◌==◌}
+use Rattle.std.specs.Prelude.{◌≡◌, ℕ, if◌then◌else◌, ◌&&◌, List, Some, None, Ok, Err, Option, ◌==◌, filter, slice_get}
+use Rattle.std.specs.Fn.{FnReturnsAt}
+use Rattle.std.specs.List.{filter_map}
+use denote.Param.Members.{Shared}
+use denote.Ref.{Bor}
 use Rattle.records.specs.declared.message.Kind.TheVariants as kind
 use Rattle.order.specs.declared.event.Event.{Event}
 use Rattle.order.specs.declared.event.Event.TheVariants as event
 use Rattle.order.specs.History.{holds}
+use Rattle.showcase.specs.declared.race.Entry.{Entry}
 
 -- the moment of an accepted deliver to the seat, if its batch holds the point
 abbrev pub handed_out : (seat point : ℕ) → Event → Option ℕ
-handed_out k p (event.Deliver t j (Ok b)) = cond (j == k && holds b p) (Some t) None
+handed_out k p (event.Deliver t j (Ok b)) = if j == k && holds b p then Some t else None
 handed_out k p (event.Deliver t j (Err e)) = None
 handed_out k p (event.Point t x r) = None
 handed_out k p (event.Seal t r) = None
@@ -19,7 +24,7 @@ handed_out k p (event.Release r) = None
 
 -- the moment of an accepted submit of the seat, if it answered the serial
 abbrev pub sent_off : (seat serial : ℕ) → Event → Option ℕ
-sent_off k n (event.Submit t j o (Ok s)) = cond (j == k && s == n) (Some t) None
+sent_off k n (event.Submit t j o (Ok s)) = if j == k && s == n then Some t else None
 sent_off k n (event.Submit t j o (Err e)) = None
 sent_off k n (event.Point t x r) = None
 sent_off k n (event.Seal t r) = None
@@ -31,7 +36,7 @@ sent_off k n (event.Release r) = None
 
 -- the moment of a collect that took a trade of the seat
 abbrev pub taken_off : (seat : ℕ) → Event → Option ℕ
-taken_off k (event.Collect t j (Ok kind.Trade)) = cond (j == k) (Some t) None
+taken_off k (event.Collect t j (Ok kind.Trade)) = if j == k then Some t else None
 taken_off k (event.Collect t j (Ok kind.Beat)) = None
 taken_off k (event.Collect t j (Ok kind.End)) = None
 taken_off k (event.Collect t j (Err e)) = None
@@ -43,22 +48,18 @@ taken_off k (event.Beat t j r) = None
 taken_off k (event.End t j r) = None
 taken_off k (event.Release r) = None
 
--- an answer, or else another
-abbrev pub or_else : Option ℕ → Option ℕ → Option ℕ
-or_else (Some t) other = Some t
-or_else None other = other
+-- the answer that has so many ahead of it, of those that events give to a question
+abbrev pub nth_answer : (Event → Option ℕ) → (ahead : ℕ) → List Event → Option ℕ
+nth_answer q ahead es = slice_get (filter_map q es) ahead
 
 -- the first answer that an event gives to a question
 abbrev pub first_answer : (Event → Option ℕ) → List Event → Option ℕ
-first_answer q [] = None
-first_answer q (e ∷ es) = or_else (q e) (first_answer q es)
+first_answer q es = nth_answer q 0 es
 
--- an answer counts if none is to be passed by, and else leaves one fewer
-abbrev pub counted : Option ℕ → (ahead : ℕ) → (same fewer : Option ℕ) → Option ℕ
-counted None ahead same fewer = same
-counted (Some t) ahead same fewer = cond (ahead == 0) (Some t) fewer
+-- a closure reads v off each order
+abbrev pub Reads : {F : Type 0} → Shared F (Bor Entry × Unit {0}) ℕ → F → (Entry → ℕ) → Type 0
+Reads g f v = (e : Entry) (n : ℕ) → FnReturnsAt g f e n → n ≡ v e
 
--- the answer that has so many ahead of it
-abbrev pub nth_answer : (Event → Option ℕ) → (ahead : ℕ) → List Event → Option ℕ
-nth_answer q ahead [] = None
-nth_answer q ahead (e ∷ es) = counted (q e) ahead (nth_answer q ahead es) (nth_answer q (ahead - 1) es)
+-- the orders that answered a tick
+abbrev pub answering : (tick : ℕ) → List Entry → List Entry
+answering tick es = filter (λ e. e.tick == tick) es

@@ -1,28 +1,17 @@
 // What the book made of the orders: the fills, and what is left of each order.
 ghost use Rattle.std.specs.Prelude.{◌≡◌, ◌-◌};
-ghost use Rattle.showcase.specs.Deals.{is_order};
 
-use crate::record::side_name;
 use book::{Fill, Party};
 use order::{Event, Outcome};
 use std::io;
 
-// Whether a party is this order of a seat.
-fn is_order(party: &Party, seat: usize, serial: u32) -> bool
-    ensures { result ≡ is_order party.now seat serial }
-{
-    party.seat == seat && party.serial == serial
-}
-
 // How much of an order changed hands.
-fn filled(fills: &[Fill], seat: usize, serial: u32) -> u32 {
-    let mut total = 0u32;
-    for fill in fills {
-        if is_order(&fill.buyer, seat, serial) || is_order(&fill.seller, seat, serial) {
-            total = total.saturating_add(fill.quantity);
-        }
-    }
-    total
+fn filled(fills: &[Fill], party: Party) -> u32 {
+    fills
+        .iter()
+        .filter(|fill| fill.buyer == party || fill.seller == party)
+        .map(|fill| fill.quantity)
+        .fold(0, |total: u32, quantity| total.saturating_add(quantity))
 }
 
 // What is left of an order in the book.
@@ -34,8 +23,8 @@ fn resting(quantity: u32, filled: u32, dropped: u32) -> u32
 
 pub fn print_fills(rt: &impl Print, fills: &[Fill]) -> io::Result<()> {
     println!(rt; "\nThe fills\n\nfill  price  quantity  buyer/serial  seller/serial")?;
-    for (index, fill) in fills.iter().enumerate() {
-        print_fill(rt, index.saturating_add(1), fill)?;
+    for (number, fill) in (1..).zip(fills) {
+        print_fill(rt, number, fill)?;
     }
     Ok(())
 }
@@ -71,14 +60,9 @@ fn print_order(rt: &impl Print, outcome: &Outcome, fills: &[Fill]) -> io::Result
     let trade = outcome.line.trade;
     print!(rt;
         "{:>5}  {:>6}  {:>6}  {:<4}  {:>8}  {:>5}",
-        outcome.line.place,
-        trade.seat,
-        trade.serial,
-        side_name(trade.side),
-        trade.quantity,
-        trade.price
+        outcome.line.place, trade.seat, trade.serial, trade.side, trade.quantity, trade.price
     )?;
-    let filled = filled(fills, trade.seat, trade.serial);
+    let filled = filled(fills, trade.order().party);
     print_end(rt, trade.quantity, filled, outcome.booked.dropped)
 }
 

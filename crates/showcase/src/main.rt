@@ -19,7 +19,7 @@ use book::Fill;
 use lines::Lines;
 use order::Played;
 use race::{Entry, yes_or_no};
-use stage::{FILLS, NO_FILL, used_lines};
+use stage::FILLS;
 use std::alloc::Global;
 use std::io;
 
@@ -32,13 +32,11 @@ fn run(rt: &impl Print, heap: Global) -> anyhow::Result<()> {
     members::print(rt)?;
     let layout = members::lay_out(heap)?;
     let calls = script::calls(heap)?;
-    let mut lines = [NO_FILL; FILLS];
+    let mut lines = [Fill::default(); FILLS];
     let mut list = Lines::new(&mut lines);
     let played = stage::play(heap, layout, &mut list, &calls)?;
-    let used = list.used();
-    let fills = used_lines(heap, &lines, used)?;
     let entries = race::entries(heap, &played.events)?;
-    report(rt, &played, &entries, &fills)?;
+    report(rt, &played, &entries, list.written())?;
     Ok(())
 }
 

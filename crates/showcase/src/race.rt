@@ -1,8 +1,8 @@
 // The races: for each tick, the orders that answered it, by their place on the tape. All of it is read off the events.
-ghost use Rattle.std.specs.Prelude.{◌≡◌, ◌-◌, IfSome};
+ghost use Rattle.std.specs.Prelude.{◌≡◌, ℕ, ◌-◌, ◌↔◌, IfSome, IsTrue, map};
+ghost use Rattle.std.specs.List.Sorted.{IsNonDecreasing};
 ghost use Rattle.order.specs.History.{holds as holds_point};
-ghost use Rattle.showcase.specs.Columns.{rising, value_in};
-ghost use Rattle.showcase.specs.Race.{first_answer, handed_out, nth_answer, sent_off, taken_off};
+ghost use Rattle.showcase.specs.Race.{Reads, answering, first_answer, handed_out, nth_answer, sent_off, taken_off};
 
 use order::Event;
 use records::{Batch, Kind, Line};
@@ -21,24 +21,6 @@ pub struct Entry {
     left: u64,
     response: u64,
     collected: u64,
-}
-
-// What a race may be ordered by.
-#[derive(Clone, Copy)]
-pub enum Column {
-    Response,
-    Collected,
-}
-
-impl Entry {
-    fn value(&self, column: Column) -> u64
-        ensures { result ≡ value_in column self.now }
-    {
-        match column {
-            Column::Response => self.response,
-            Column::Collected => self.collected,
-        }
-    }
 }
 
 // Whether a batch holds a point.
@@ -106,40 +88,27 @@ fn written(event: &Event) -> Option<Line> {
 fn reached(events: &[Event], seat: usize, point: u64) -> Option<u64>
     ensures { result ≡ first_answer (handed_out seat point) events.now }
 {
-    for event in events {
-        if let Some(at) = handed_out(event, seat, point) {
-            return Some(at);
-        }
-    }
-    None
+    events
+        .iter()
+        .find_map(|event| handed_out(event, seat, point))
 }
 
 // When a trade left its seat.
 fn left(events: &[Event], seat: usize, serial: u32) -> Option<u64>
     ensures { result ≡ first_answer (sent_off seat serial) events.now }
 {
-    for event in events {
-        if let Some(at) = sent(event, seat, serial) {
-            return Some(at);
-        }
-    }
-    None
+    events.iter().find_map(|event| sent(event, seat, serial))
 }
 
 // When a trade was collected. A seat's trades are collected in the order of their serials, which count from 1.
 fn collected(events: &[Event], seat: usize, serial: u32) -> Option<u64>
     ensures { result ≡ nth_answer (taken_off seat) (serial - 1) events.now }
 {
-    let mut ahead = serial.saturating_sub(1);
-    for event in events {
-        if let Some(at) = taken(event, seat) {
-            if ahead == 0 {
-                return Some(at);
-            }
-            ahead -= 1;
-        }
-    }
-    None
+    let ahead = serial.saturating_sub(1) as usize;
+    events
+        .iter()
+        .filter_map(|event| taken(event, seat))
+        .nth(ahead)
 }
 
 // The entry of a line of the tape.
@@ -164,60 +133,46 @@ fn entered(events: &[Event], line: &Line) -> Option<Entry>
 
 // Every order on the tape, in the order of the places.
 pub fn entries(heap: Global, events: &[Event]) -> Result<Vec<Entry>, AllocError> {
-    let mut entries = Vec::new(heap);
-    for event in events {
-        if let Some(line) = written(event)
-            && let Some(entry) = entered(events, &line)
-        {
-            entries.push(entry)?;
-        }
-    }
-    Ok(entries)
+    events
+        .iter()
+        .filter_map(written)
+        .filter_map(|line| entered(events, &line))
+        .collect(heap)
 }
 
-// How many of the orders answered a tick.
-fn answers(entries: &[Entry], tick: u64) -> usize {
-    let mut count = 0usize;
-    for entry in entries {
-        if entry.tick == tick {
-            count = count.saturating_add(1);
-        }
-    }
-    count
+// Whether any of the orders answered a tick.
+fn is_answered(entries: &[Entry], tick: u64) -> bool {
+    entries.iter().any(|entry| entry.tick == tick)
 }
 
-// Whether a column never falls from one order that answered a tick to the next.
-fn rises(entries: &[Entry], tick: u64, column: Column) -> bool
-    ensures { result ≡ rising tick column 0 entries.now }
+// Whether a value never falls from one order that answered a tick to the next.
+fn rises<F: Fn(&Entry) -> u64>(entries: &[Entry], tick: u64, value: F) -> bool
+    requires { F.IsAlwaysCallable value }
+    ensures { (v : Entry → ℕ) → Reads F.Fn value v → (IsTrue result ↔ IsNonDecreasing (map v (answering tick entries.now))) }
 {
-    let mut last = 0;
-    for entry in entries {
-        if entry.tick == tick {
-            let value = entry.value(column);
-            if value < last {
-                return false;
-            }
-            last = value;
-        }
+    entries
+        .iter()
+        .filter(|entry| entry.tick == tick)
+        .is_sorted_by_key(value)
+}
+
+// The number of the tick that an event brought, if it did.
+fn numbered(event: &Event) -> Option<u64> {
+    match *event {
+        Event::Point {
+            answer: Ok(number),
+            ..
+        } => Some(u64::from(number)),
+        _ => None,
     }
-    true
 }
 
 // How many ticks there were.
 fn ticks(events: &[Event]) -> u64 {
-    let mut last = 0;
-    for event in events {
-        if let Event::Point {
-            answer: Ok(number),
-            ..
-        } = *event
-        {
-            last = u64::from(number);
-        }
-    }
-    last
+    events.iter().filter_map(numbered).last().unwrap_or(0)
 }
 
+// A `bool` prints as true or false.
 pub fn yes_or_no(test: bool) -> &'static str {
     if test { "yes" } else { "no" }
 }
@@ -225,7 +180,7 @@ pub fn yes_or_no(test: bool) -> &'static str {
 pub fn print(rt: &impl Print, events: &[Event], entries: &[Entry]) -> io::Result<()> {
     println!(rt; "\nThe races: the orders that answered each tick, by their place on the tape")?;
     for tick in 1..=ticks(events) {
-        if answers(entries, tick) > 0 {
+        if is_answered(entries, tick) {
             print_race(rt, entries, tick)?;
         } else {
             println!(rt; "\ntick {tick}: no order answered it")?;
@@ -238,15 +193,13 @@ fn print_race(rt: &impl Print, entries: &[Entry], tick: u64) -> io::Result<()> {
     println!(rt;
         "\ntick {tick}:\nplace  member  serial  tick reached  order left  response  order collected"
     )?;
-    for entry in entries {
-        if entry.tick == tick {
-            print_entry(rt, entry)?;
-        }
+    for entry in entries.iter().filter(|entry| entry.tick == tick) {
+        print_entry(rt, entry)?;
     }
     println!(rt;
         "in the order of the places: responses {}, arrivals {}",
-        yes_or_no(rises(entries, tick, Column::Response)),
-        yes_or_no(rises(entries, tick, Column::Collected))
+        yes_or_no(rises(entries, tick, |entry| entry.response)),
+        yes_or_no(rises(entries, tick, |entry| entry.collected))
     )
 }
 

@@ -1,5 +1,4 @@
 // The record of the session: each call with its moment and its arguments, and its answer.
-use book::Side;
 use order::Event;
 use records::{Batch, Direction, Kind, Line, Offer, Refusal};
 use std::io;
@@ -8,8 +7,8 @@ pub fn print(rt: &impl Print, events: &[Event]) -> io::Result<()> {
     println!(rt;
         "\nThe record: each call, and its answer\n\ncall  moment  what     member  arguments                answer"
     )?;
-    for (index, event) in events.iter().enumerate() {
-        print!(rt; "{:>4} ", index.saturating_add(1))?;
+    for (number, event) in (1..).zip(events) {
+        print!(rt; "{number:>4} ")?;
         print_call(rt, event)?;
         print_answer(rt, event)?;
     }
@@ -46,10 +45,7 @@ fn print_seal(rt: &impl Print, at: u64) -> io::Result<()> {
 fn print_submit(rt: &impl Print, at: u64, seat: usize, offer: &Offer) -> io::Result<()> {
     print!(rt;
         "{at:>7}  submit  {seat:>7}  tick {}: {:<4} {:>3} at {:>3}  ",
-        offer.trigger,
-        side_name(offer.side),
-        offer.quantity,
-        offer.price
+        offer.trigger, offer.side, offer.quantity, offer.price
     )
 }
 
@@ -85,10 +81,7 @@ fn print_answer(rt: &impl Print, event: &Event) -> io::Result<()> {
         } => println!(rt; "{}", kind_name(kind)),
         Event::Release {
             answer: Ok(outcome),
-        } => println!(rt;
-            "place {}: member {}, serial {}",
-            outcome.line.place, outcome.line.trade.seat, outcome.line.trade.serial
-        ),
+        } => print_line(rt, &outcome.line),
         Event::Point {
             answer: Err(refusal),
             ..
@@ -154,13 +147,8 @@ fn print_refusal(rt: &impl Print, refusal: &Refusal) -> io::Result<()> {
     println!(rt; ": {}", reason(refusal))
 }
 
-pub fn side_name(side: Side) -> &'static str {
-    match side {
-        Side::Buy => "buy",
-        Side::Sell => "sell",
-    }
-}
-
+// The names and reasons are the program's own, which says member, tick and line where the library's `Display` says seat,
+// point and link.
 fn kind_name(kind: Kind) -> &'static str {
     match kind {
         Kind::Trade => "a trade",

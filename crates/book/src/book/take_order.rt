@@ -22,20 +22,6 @@ fn count_in(taken: u32) -> Option<(u32, u32)>
     }
 }
 
-impl Booked {
-    // All of an order is dropped.
-    fn refused(order: &Order) -> Booked
-        ensures { result ≡ record { filled = 0; rested = 0; dropped = order.now.quantity; fills = 0 } }
-    {
-        Booked {
-            filled: 0,
-            rested: 0,
-            dropped: order.quantity,
-            fills: 0,
-        }
-    }
-}
-
 impl Book {
     // Takes an order in: it meets the other side, first to last, and what is left rests or is dropped.
     pub fn take_order(&mut self, order: Order, fills: &mut Lines<Fill>) -> Booked
@@ -43,7 +29,7 @@ impl Book {
         ensures same { fills.new.lines.ghost_name ≡ fills.old.lines.ghost_name }
     {
         let Some((arrival, taken)) = count_in(self.taken) else {
-            return Booked::refused(&order);
+            return Booked::all_dropped(order.quantity);
         };
         self.taken = taken;
         match order.side {

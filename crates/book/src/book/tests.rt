@@ -1,21 +1,11 @@
 use super::Book;
-use super::new::ROOM;
 use crate::fill::Fill;
 use crate::order::{Booked, Order, Party, Side};
-use heap::Heap;
+use crate::side::Quotes;
 use lines::Lines;
 use std::alloc::{AllocError, Global};
 use std::process::Abort;
 use std::test::Fail;
-
-const NOBODY: Party = Party { seat: 0, serial: 0 };
-
-const FREE: Fill = Fill {
-    price: 0,
-    quantity: 0,
-    buyer: NOBODY,
-    seller: NOBODY,
-};
 
 fn buy(seat: usize, price: u32, quantity: u32) -> Order {
     Order {
@@ -42,15 +32,15 @@ fn became(rt: &impl Abort, booked: Booked, filled: u32, rested: u32, dropped: u3
 
 // An empty book that has taken so many orders.
 fn after(heap: Global, taken: u32) -> Result<Book, AllocError> {
-    let buys = Heap::with_room(heap, ROOM)?;
-    let sells = Heap::with_room(heap, ROOM)?;
+    let buys = Quotes::new(heap)?;
+    let sells = Quotes::new(heap)?;
     Ok(Book { buys, sells, taken })
 }
 
 #[test]
 fn equal_prices_go_by_arrival(rt: HostRuntime) -> Result<(), Fail> {
     let mut book = Book::new(rt.alloc())?;
-    let mut lines = [FREE; 2];
+    let mut lines = [Fill::default(); 2];
     let mut fills = Lines::new(&mut lines);
     became(&rt, book.take_order(sell(1, 100, 5), &mut fills), 0, 5, 0);
     became(&rt, book.take_order(sell(2, 100, 5), &mut fills), 0, 5, 0);
@@ -67,7 +57,7 @@ fn equal_prices_go_by_arrival(rt: HostRuntime) -> Result<(), Fail> {
 #[test]
 fn an_order_clears_three(rt: HostRuntime) -> Result<(), Fail> {
     let mut book = Book::new(rt.alloc())?;
-    let mut lines = [FREE; 3];
+    let mut lines = [Fill::default(); 3];
     let mut fills = Lines::new(&mut lines);
     for price in 100..103u32 {
         became(&rt, book.take_order(buy(1, price, 5), &mut fills), 0, 5, 0);
@@ -83,7 +73,7 @@ fn an_order_clears_three(rt: HostRuntime) -> Result<(), Fail> {
 #[test]
 fn a_full_fill_list_drops_what_crosses(rt: HostRuntime) -> Result<(), Fail> {
     let mut book = Book::new(rt.alloc())?;
-    let mut lines = [FREE; 1];
+    let mut lines = [Fill::default(); 1];
     let mut fills = Lines::new(&mut lines);
     became(&rt, book.take_order(sell(1, 100, 5), &mut fills), 0, 5, 0);
     became(&rt, book.take_order(sell(2, 100, 5), &mut fills), 0, 5, 0);

@@ -1,9 +1,8 @@
-ghost use Rattle.std.specs.Prelude.{◌≡◌, ℕ, ◌+◌, ◌<◌, [], ◌∷◌, ◌++◌, length, IfOk, vec_len, vec_capacity, ◌==◌, ◌≢◌, nat_le, slice_index_or};
+ghost use Rattle.std.specs.Prelude.{◌≡◌, ℕ, ◌+◌, ◌<◌, ◌≤◌, [], ◌∷◌, ◌++◌, length, IfOk, vec_len, vec_capacity, ◌==◌, ◌≢◌, nat_le, slice_index_or};
 ghost use Rattle.std.specs.List.{swap_remove};
 ghost use Rattle.std.specs.Slice.{IsGetResult};
-ghost use Rattle.heap.specs.Calls.{Adds, Fresh, KeepsOrder, Peeks, PeeksFirst, Takes, TakesFirst};
-ghost use Rattle.heap.specs.Heaps.{Upto};
-ghost use Rattle.heap.specs.Held.{held, bound};
+ghost use Rattle.heap.specs.Calls.{Adds, Peeks, Takes};
+ghost use Rattle.heap.specs.Heaps.{Heaped, Upto};
 
 use super::Heap;
 use super::places::ROOT;
@@ -11,58 +10,48 @@ use super::sift::{sift_down, sift_up};
 use crate::ranked::Ranked;
 use std::alloc::{AllocError, Global};
 
-impl<T> Heap<T> {
-    // How many elements the heap holds.
+impl<T: Ranked> Heap<T> {
+    // An empty heap with room for `limit` elements.
+    pub fn with_room(heap: Global, limit: usize) -> Result<Heap<T>, AllocError>
+        ensures { IfOk result (λ h. (h.items ≡ []) × (h.bound ≡ limit)) }
+    {
+        let items = Vec::with_capacity(heap, limit)?;
+        Ok(Heap { items, limit })
+    }
+
+    // How many elements the heap holds. What always holds of a heap is told here too.
     pub fn len(&self) -> usize
-        ensures { result ≡ length (held self.now) }
+        ensures value { result ≡ length self.now.items }
+        ensures within { length self.now.items ≤ self.now.bound }
+        ensures ordered { Heaped (Upto T.key T.upto) self.now.items }
     {
         self.items.len()
     }
 
     // Whether there is nothing to take.
     fn is_empty(&self) -> bool
-        ensures { result ≡ (length (held self.now) == 0) }
+        ensures { result ≡ (length self.now.items == 0) }
     {
-        self.len() == 0
+        self.items.is_empty()
     }
 
     // Whether the heap holds as many elements as it may.
     fn is_full(&self) -> bool
-        ensures { result ≡ nat_le (bound self.now) (length (held self.now)) }
+        ensures { result ≡ nat_le self.now.bound (length self.now.items) }
     {
-        self.len() >= self.limit
-    }
-
-    // The element at the root, if there is one.
-    fn root(&self) -> Option<&T>
-        ensures { IsGetResult (held self.now) 0 0 result }
-    {
-        self.items.as_slice().first()
-    }
-}
-
-impl<T: Ranked> Heap<T> {
-    // An empty heap with room for `limit` elements.
-    pub fn with_room(heap: Global, limit: usize) -> Result<Heap<T>, AllocError>
-        ensures { IfOk result (λ h. Fresh (Upto T.key T.upto) limit h) }
-    {
-        let items = Vec::with_capacity(heap, limit)?;
-        Ok(Heap { items, limit })
+        self.limit <= self.len()
     }
 
     // The element that the next `take` hands out.
     pub fn peek(&self) -> Option<&T>
-        ensures item { Peeks (held self.now) result }
-        ensures first { PeeksFirst (Upto T.key T.upto) (held self.now) result }
+        ensures { Peeks (Upto T.key T.upto) self.now.items result }
     {
-        self.root()
+        first(&self.items)
     }
 
     // Takes an element in, or hands it back where the heap holds as many as it may.
     pub fn add(&mut self, x: T) -> Result<(), T>
-        ensures items { Adds self.old x result self.new }
-        ensures heaped { KeepsOrder (Upto T.key T.upto) (held self.old) (held self.new) }
-        ensures limit { bound self.new ≡ bound self.old }
+        ensures { Adds self.old x result self.new }
     {
         if self.is_full() {
             return Err(x);
@@ -74,10 +63,7 @@ impl<T: Ranked> Heap<T> {
 
     // Hands out an element that no other precedes, and keeps the others. Among equal keys any may come first.
     pub fn take(&mut self) -> Option<T>
-        ensures items { Takes (held self.old) result (held self.new) }
-        ensures first { TakesFirst (Upto T.key T.upto) (held self.old) result (held self.new) }
-        ensures heaped { KeepsOrder (Upto T.key T.upto) (held self.old) (held self.new) }
-        ensures limit { bound self.new ≡ bound self.old }
+        ensures { Takes (Upto T.key T.upto) self.old result self.new }
     {
         if self.is_empty() {
             return None;
@@ -86,6 +72,13 @@ impl<T: Ranked> Heap<T> {
         sift_down(self.items.as_mut_slice(), ROOT);
         Some(root)
     }
+}
+
+// The element at the root, if there is one.
+fn first<T>(items: &Vec<T>) -> Option<&T>
+    ensures { IsGetResult items.now.items 0 0 result }
+{
+    items.as_slice().first()
 }
 
 // Puts an element at the end, in room that is reserved, and answers its place.

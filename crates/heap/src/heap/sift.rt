@@ -38,9 +38,7 @@ pub fn sift_down<T: Ranked>(s: &mut [T], mut at: usize)
 fn first_child<T: Ranked>(s: &[T], at: usize) -> Option<usize>
     ensures { MatchOption result (length s.now ≤ at * 2 + 1) (λ c. Child at c × (c < length s.now) × Under (Upto T.key T.upto) s.now c at) }
 {
-    let Some(left) = left_child(at, s.len()) else {
-        return None;
-    };
+    let left = left_child(at, s.len())?;
     if left + 1 == s.len() {
         return Some(left);
     }

@@ -5,10 +5,9 @@ ghost use Rattle.session.specs.Beat.{Beats};
 ghost use Rattle.session.specs.World.{world};
 
 use super::Session;
-use crate::post::post;
 use clock::StopClock;
 use network::Network;
-use records::{Batch, Line, Message, Refusal, SeatCall, Tag};
+use records::{Batch, Line, Message, Refusal, SeatCall};
 
 impl Session {
     // Sends the seat's tag to the exchange: no trade of it with a lower one will follow.
@@ -24,14 +23,10 @@ impl Session {
         self.state.timely(Some(seat), at)?;
         let record = self.state.seat(seat)?;
         record.turn(seat, SeatCall::Beat)?;
-        if !reverse.room(seat) {
-            return Err(Refusal::ReverseFull { seat });
-        }
-        let tag = Tag {
-            batch: record.batch,
-            elapsed: clock.since(seat, at),
-        };
-        post(reverse, seat, at, Message::Beat(tag));
+        let tag = record.tag(clock.since(seat, at));
+        reverse
+            .send(seat, at, Message::Beat(tag))
+            .map_err(|_| Refusal::ReverseFull { seat })?;
         self.state.last = at;
         Ok(())
     }

@@ -5,7 +5,6 @@ ghost use Rattle.session.specs.Collect.{Collects};
 ghost use Rattle.session.specs.World.{world};
 
 use super::Session;
-use crate::state::put;
 use network::Network;
 use records::{Batch, Kind, Line, Message, Refusal};
 
@@ -22,13 +21,8 @@ impl Session {
     {
         self.state.timely(Some(seat), at)?;
         let record = self.state.seat(seat)?;
-        if !reverse.waiting(seat, at) {
-            return Err(Refusal::NoMessage { seat });
-        }
-        let Some(message) = reverse.take(seat, at) else {
-            unreachable()
-        };
-        let collected = put(&mut self.state.buffer, seat, &record, &message);
+        let message = reverse.take(seat, at).ok_or(Refusal::NoMessage { seat })?;
+        let collected = self.state.buffer.put(seat, &record, &message);
         self.state
             .seat_mut(seat)
             .note_collected(collected, message.watermark());

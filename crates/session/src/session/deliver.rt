@@ -29,7 +29,7 @@ impl Session {
                 batch: record.batch,
             });
         }
-        record.check_pace(seat, clock.since(seat, at), self.state.horizon)?;
+        record.check_pace(seat, clock.since(seat, at), self.state.times.horizon)?;
         let Some(batch) = forward.take(seat, at) else {
             unreachable()
         };

@@ -5,7 +5,6 @@ ghost use Rattle.session.specs.End.{Ends};
 ghost use Rattle.session.specs.World.{world};
 
 use super::Session;
-use crate::post::post;
 use network::Network;
 use records::{Batch, Line, Message, Refusal, SeatCall};
 
@@ -21,10 +20,9 @@ impl Session {
     {
         self.state.timely(Some(seat), at)?;
         let condition = self.state.seat(seat)?.turn(seat, SeatCall::End)?;
-        if !reverse.room(seat) {
-            return Err(Refusal::ReverseFull { seat });
-        }
-        post(reverse, seat, at, Message::End);
+        reverse
+            .send(seat, at, Message::End)
+            .map_err(|_| Refusal::ReverseFull { seat })?;
         self.state.seat_mut(seat).condition = condition;
         self.state.last = at;
         Ok(())

@@ -1,8 +1,6 @@
-ghost use Rattle.std.specs.Prelude.{◌≡◌, ℕ, ◌≤◌, length, replicate};
-ghost use Rattle.heap.specs.Held.{bound, held};
+ghost use Rattle.std.specs.Prelude.{◌≡◌, ℕ, ◌≤◌, [], replicate};
 ghost use Rattle.records.specs.Market.{no_points};
 ghost use Rattle.records.specs.Seat.{blank};
-ghost use Rattle.session.specs.Balance.{buffer_room};
 ghost use Rattle.session.specs.Opening.{most_seats};
 
 use super::Session;
@@ -12,7 +10,7 @@ impl Session {
     // A session in which nothing has happened.
     pub(crate) fn over(state: State) -> Session
         requires seats { (n : ℕ) × (n ≤ most_seats) × (state.seats.items ≡ replicate n blank) }
-        requires buffer { (length (held state.buffer) ≡ 0) × (bound state.buffer ≡ buffer_room) }
+        requires buffer { state.buffer ≡ [] }
         requires market { state.market ≡ no_points }
         ensures { result.state ≡ state }
     {

@@ -6,7 +6,6 @@ ghost use Rattle.session.specs.Ticket.{lined};
 ghost use Rattle.session.specs.World.{world};
 
 use super::Session;
-use crate::state::take_head;
 use crate::ticket::Ticket;
 use lines::Lines;
 use records::{Batch, Line, Message, Refusal};
@@ -18,7 +17,7 @@ impl Session {
         ensures released { (f : Net Batch) (b : Net Message) (c : ℕ → ℕ) (p : Page ℕ) → Releases (world self.old.state f b c p (page tape.old)) (lined result) (world self.new.state f b c p (page tape.new)) }
         ensures same { tape.new.lines.ghost_name ≡ tape.old.lines.ghost_name }
     {
-        let Some(head) = self.state.head() else {
+        let Some(head) = self.state.buffer.head() else {
             return Err(Refusal::BufferEmpty);
         };
         if let Some(seat) = self.state.holder(&head) {
@@ -34,7 +33,7 @@ impl Session {
             place: place as u64,
             trade: head,
         };
-        take_head(&mut self.state.buffer, head);
+        self.state.buffer.take(head);
         let _ = tape.write(line);
         self.state.seat_mut(head.seat).count_released();
         Ok(Ticket::of(line))

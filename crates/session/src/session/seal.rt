@@ -18,7 +18,7 @@ impl Session {
         if market.unsealed == 0 {
             return Err(Refusal::BatchEmpty);
         }
-        if market.sealed_lately(self.state.window, at) {
+        if market.sealed_lately(self.state.times.window, at) {
             return Err(Refusal::SealedLately);
         }
         let batch = market.open_batch();

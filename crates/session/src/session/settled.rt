@@ -12,6 +12,6 @@ impl Session {
     pub fn settled(&self) -> bool
         ensures { (f : Net Batch) (b : Net Message) (c : ℕ → ℕ) (p : Page ℕ) (t : Page Line) → Says result (Settled (world self.now.state f b c p t)) }
     {
-        self.state.is_drained() && self.state.all_ended()
+        self.state.buffer.is_empty() && self.state.all_ended()
     }
 }

@@ -5,10 +5,9 @@ ghost use Rattle.session.specs.Submit.{Submits};
 ghost use Rattle.session.specs.World.{world};
 
 use super::Session;
-use crate::post::post;
 use clock::StopClock;
 use network::Network;
-use records::{Batch, Line, Message, Offer, Refusal, SeatCall, Tag, Trade};
+use records::{Batch, Line, Message, Offer, Refusal, SeatCall, Trade};
 
 impl Session {
     // Sends a trade with the seat's tag to the exchange, and answers its serial.
@@ -26,14 +25,8 @@ impl Session {
         let record = self.state.seat(seat)?;
         record.turn(seat, SeatCall::Submit)?;
         record.check(seat, &offer)?;
-        if !reverse.room(seat) {
-            return Err(Refusal::ReverseFull { seat });
-        }
         let serial = record.submitted + 1;
-        let tag = Tag {
-            batch: record.batch,
-            elapsed: clock.since(seat, at),
-        };
+        let tag = record.tag(clock.since(seat, at));
         let trade = Trade {
             seat,
             serial,
@@ -43,7 +36,9 @@ impl Session {
             price: offer.price as u32,
             quantity: offer.quantity as u32,
         };
-        post(reverse, seat, at, Message::Trade(trade));
+        reverse
+            .send(seat, at, Message::Trade(trade))
+            .map_err(|_| Refusal::ReverseFull { seat })?;
         self.state.last = at;
         Ok(self.state.seat_mut(seat).count_submitted())
     }

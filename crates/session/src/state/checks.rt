@@ -23,9 +23,9 @@ impl State {
     pub fn seat(&self, seat: usize) -> Result<Seat, Refusal>
         ensures { result ≡ (if nat_le (length self.now.seats.items) seat then Err (NoSeat seat) else Ok (slice_index_or self.now.seats.items seat blank)) }
     {
-        if seat >= self.seats.len() {
-            return Err(Refusal::NoSeat { seat });
-        }
-        Ok(self.seats[seat])
+        self.seats
+            .get(seat)
+            .copied()
+            .ok_or(Refusal::NoSeat { seat })
     }
 }

@@ -11,12 +11,7 @@ impl State {
     pub fn all_ended(&self) -> bool
         ensures { Says result (AllTop self.now.seats.items) }
     {
-        for seat in self.seats.iter() {
-            if !seat.watermark.is_top() {
-                return false;
-            }
-        }
-        true
+        self.seats.iter().all(|seat| seat.watermark.is_top())
     }
 
     // A seat that holds a trade up: another one, whose watermark is not above the trade's tag.

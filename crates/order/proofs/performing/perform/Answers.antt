@@ -1,7 +1,6 @@
 use Rattle.std.proofs.Common.{vec_items, ◌∙◌, rules}
-use Rattle.std.proofs.lemmas.List.{take_all}
 use Rattle.order.specs.declared.call.Call.TheVariants as call
-use Rattle.order.proofs.Chains.{booked_more, calls_more, run_more}
+use Rattle.order.proofs.Chains.{booked_more, calls_more, run_more, same_more}
 use Rattle.order.proofs.performing.perform.Goals as goal
 
 pub loop-call-preserved : goal.loop-call-preserved
@@ -19,15 +18,5 @@ loop-call-preserved g c =
       acted.points ∙ inv.4,
       acted.tape ∙ inv.5,
       acted.fills ∙ inv.6,
+      same_more inv.7 acted.venue,
     )
-
-pub returns : goal.returns
-returns g c =
-    let inv = c.loop-call.invariant in
-    let all = take_all c.loop-call.call-index c.args.calls.now c.loop-call-test.false in
-    record {
-      performed = record { made = inv.1 ∙ all; run = inv.2; booked = inv.3 };
-      points = inv.4;
-      tape = inv.5;
-      fills = inv.6;
-    }

@@ -26,13 +26,14 @@ returns-in_err-events g c =
       points = same.points;
       tape = same.tape;
       fills = same.fills;
+      venue = same.venue;
     }
 
 pub returns : goal.returns
 returns g c =
     let played = c.in_ok-events.ensures in
     let last = c.perform.new in
-    let end = world last.session.state (g.F.Network.meaning last.forward) (g.R.Network.meaning last.reverse) (g.C.StopClock.meaning last.clock) (page last.points) (page last.tape) in
+    let end = world last.session.state (g.F.Network.meaning last.venue.forward.now) (g.R.Network.meaning last.venue.reverse.now) (g.C.StopClock.meaning last.venue.clock.now) (page last.points) (page last.tape) in
     let events = reverse (vec_items c.in_ok-events.events) in
     record {
       played = record {
@@ -46,4 +47,5 @@ returns g c =
       points = played.points;
       tape = played.tape;
       fills = played.fills;
+      venue = played.venue;
     }

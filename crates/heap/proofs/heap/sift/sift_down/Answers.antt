@@ -1,19 +1,9 @@
 use Rattle.std.proofs.Common.{arith}
 use Rattle.std.proofs.lemmas.List.Sorted.{IsPermutation-trans}
 use Rattle.heap.specs.Heaps.{Upto}
-use Rattle.heap.proofs.Ranking.{stays_under, turned}
-use Rattle.heap.proofs.Sift.{Swapped, closes, down, down_over}
+use Rattle.heap.proofs.Ranking.{turned}
+use Rattle.heap.proofs.Sift.{Swapped, down, down_over}
 use Rattle.heap.proofs.heap.sift.sift_down.Goals as goal
-
--- the first child comes no earlier, so the gap closes
-pub returns-then-upto_at : goal.returns-then-upto_at
-returns-then-upto_at g c =
-    let r = g.T.Ranked in
-    let R = Upto r.key r.upto in
-    let l = c.loop-child in
-    let o = g.met.T.Ranked.lawful in
-    let first = c.in-Some.ensures in
-    record { shuffled = l.invariant.1; heaped = λ h. closes R l.s l.at (l.invariant.2 h).0 (stays_under r.key r.upto o l.s l.at c.in-Some.child c.if-upto_at.ensures first.2) (l.invariant.2 h).1 }
 
 -- the gap moves down with the element
 pub loop-child-preserved : goal.loop-child-preserved

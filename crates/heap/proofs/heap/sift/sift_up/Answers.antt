@@ -2,17 +2,8 @@ use Rattle.std.proofs.Common.{arith}
 use Rattle.std.proofs.lemmas.List.Sorted.{IsPermutation-trans}
 use Rattle.heap.specs.Heaps.{Upto}
 use Rattle.heap.proofs.Ranking.{chain, turned}
-use Rattle.heap.proofs.Sift.{Swapped, closes, rests_over, up, up_under}
+use Rattle.heap.proofs.Sift.{Swapped, up, up_under}
 use Rattle.heap.proofs.heap.sift.sift_up.Goals as goal
-
--- the parent comes no later, so the gap closes
-pub returns-then-upto_at : goal.returns-then-upto_at
-returns-then-upto_at g c =
-    let r = g.T.Ranked in
-    let R = Upto r.key r.upto in
-    let l = c.loop-up in
-    let child = c.in-Some.ensures in
-    record { shuffled = l.invariant.2; heaped = λ h. closes R l.s l.at (l.invariant.3 h).0 (l.invariant.3 h).1 (rests_over R l.s l.at c.in-Some.up child c.if-upto_at.ensures) }
 
 -- the gap moves up with the element
 pub loop-up-preserved : goal.loop-up-preserved

@@ -1,5 +1,4 @@
 use Rattle.std.proofs.Common.{◌<◌, length, get_or, set, vec_items, sym, ap, ◌∙◌, subst, rules}
-use Rattle.heap.specs.Held.{held}
 use Rattle.records.specs.declared.seat.Seat.{Seat}
 use Rattle.records.specs.Seat.{blank, collected_with}
 use Rattle.session.specs.Collect.{Put}
@@ -13,7 +12,7 @@ put-collected-requires g c = λ due.
     let k = c.args.seat in
     let inside : k < length seats = search rules in
     let more : (get_or seats k blank).collected < (get_or seats k blank).submitted = search rules in
-    let fits = buffer_fits seats (held s.state.buffer) k inside more (balanced seats (held s.state.buffer) s.few s.tallied s.sent s.pending s.trades) in
+    let fits = buffer_fits seats s.state.buffer k inside more (balanced seats s.state.buffer s.few s.tallied s.sent s.pending s.trades) in
     search rules
 
 pub invariant_of-self : goal.invariant_of-self
@@ -22,25 +21,22 @@ invariant_of-self g c =
     let seats = vec_items s.state.seats in
     let k = c.args.seat in
     let own = get_or seats k blank in
-    let message = c.in-Some.message in
+    let message = c.in_ok-message.message in
     let n = c.put-collected.result in
     let m = c.watermark.result in
-    let buffer = held c.put-collected.new.buffer in
+    let buffer = c.put-collected.new.self in
     let inside : k < length seats = search rules in
-    let put : Put own k message n (held s.state.buffer) buffer = search rules in
-    let before = balanced seats (held s.state.buffer) s.few s.tallied s.sent s.pending s.trades in
+    let put : Put own k message n s.state.buffer buffer = search rules in
+    let before = balanced seats s.state.buffer s.few s.tallied s.sent s.pending s.trades in
     let new = c.note_collected.ensures ∙ ap (collected_with n m) c.seat_mut.ensures.value in
     let after : Balanced (set seats k c.note_collected.new.self) buffer =
-    subst (λ (x : Seat). Balanced (set seats k x) buffer) (sym new) (put_balanced seats (held s.state.buffer) buffer k n m message inside put before) in
-    let put-ensures = c.put-collected.ensures in
+    subst (λ (x : Seat). Balanced (set seats k x) buffer) (sym new) (put_balanced seats s.state.buffer buffer k n m message inside put before) in
     record {
       few = after.few;
       tallied = balanced_tallied _ _ after;
       sent = balanced_sent _ _ after;
       pending = balanced_pending _ _ after;
       trades = balanced_trades _ _ after;
-      room = put-ensures.limit ∙ s.room;
-      ranked = put-ensures.ranked s.ranked;
       points = s.points;
       counted = s.counted;
     }

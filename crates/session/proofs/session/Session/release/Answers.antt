@@ -1,21 +1,19 @@
-use Rattle.std.proofs.Common.{◌<◌, set, vec_items, sym, refl, ap, ◌∙◌, subst, rules}
-use Rattle.heap.specs.Held.{held}
+use Rattle.std.proofs.Common.{set, vec_items, sym, refl, ap, ◌∙◌, subst, rules}
 use Rattle.records.specs.declared.seat.Seat.{Seat}
-use Rattle.records.specs.Offer.{most_trades}
 use Rattle.records.specs.Seat.{released_once}
 use Rattle.session.specs.Release.{held_up, no_line}
 use Rattle.session.proofs.Balance.{Balanced, balanced, balanced_pending, balanced_release, balanced_sent, balanced_tallied, balanced_trades, held_known}
-use Rattle.session.proofs.Heads.{root_has}
+use Rattle.heap.proofs.Roots.{root_has}
 use Rattle.session.proofs.session.Session.release.Goals as goal
 
 pub returns-in-Some-holder : goal.returns-in-Some-holder
 returns-in-Some-holder c =
     let s = c.args.self.now in
-    let buffer = held s.state.buffer in
+    let buffer = s.state.buffer in
     let x = c.in-Some.head in
     let first = c.in-Some.ensures in
     record {
-      released = λ f b c' p. (held_up x c.in-Some-holder.seat (root_has buffer x first.item.0 first.item.1, first.first s.ranked) (search rules) refl, search rules);
+      released = λ f b c' p. (held_up x c.in-Some-holder.seat (root_has buffer x x first.0 first.1 refl, first.2) (search rules) refl, search rules);
       same = search rules;
     }
 
@@ -25,7 +23,7 @@ returns-in_default-next_place c =
     let x = c.in-Some.head in
     let first = c.in-Some.ensures in
     record {
-      released = λ f b c' p. (no_line x (root_has (held s.state.buffer) x first.item.0 first.item.1, first.first s.ranked) (search rules) (search rules) refl, search rules);
+      released = λ f b c' p. (no_line x (root_has s.state.buffer x x first.0 first.1 refl, first.2) (search rules) (search rules) refl, search rules);
       same = search rules;
     }
 
@@ -33,21 +31,11 @@ pub seat_mut-requires : goal.seat_mut-requires
 seat_mut-requires c =
     let s = c.args.self.now in
     let seats = vec_items s.state.seats in
-    let buffer = held s.state.buffer in
+    let buffer = s.state.buffer in
     let x = c.in-Some.head in
     let first = c.in-Some.ensures in
-    let known = held_known seats buffer x (root_has buffer x first.item.0 first.item.1) (balanced seats buffer s.few s.tallied s.sent s.pending s.trades) in
+    let known = held_known seats buffer x (root_has buffer x x first.0 first.1 refl) (balanced seats buffer s.few s.tallied s.sent s.pending s.trades) in
     search rules
-
-pub count_released-requires : goal.count_released-requires
-count_released-requires c =
-    let s = c.args.self.now in
-    let seats = vec_items s.state.seats in
-    let buffer = held s.state.buffer in
-    let x = c.in-Some.head in
-    let first = c.in-Some.ensures in
-    let known = held_known seats buffer x (root_has buffer x first.item.0 first.item.1) (balanced seats buffer s.few s.tallied s.sent s.pending s.trades) in
-    subst (λ (y : Seat). y.released < most_trades) (sym c.seat_mut.ensures.value) known.1
 
 pub invariant_of-self : goal.invariant_of-self
 invariant_of-self c =
@@ -55,20 +43,18 @@ invariant_of-self c =
     let seats = vec_items s.state.seats in
     let x = c.in-Some.head in
     let k = x.seat in
-    let taken = c.take_head.ensures in
-    let buffer = held c.take_head.new.buffer in
-    let before = balanced seats (held s.state.buffer) s.few s.tallied s.sent s.pending s.trades in
+    let taken = c.take.ensures in
+    let buffer = c.take.new.self in
+    let before = balanced seats s.state.buffer s.few s.tallied s.sent s.pending s.trades in
     let new = c.count_released.ensures ∙ ap released_once c.seat_mut.ensures.value in
     let after : Balanced (set seats k c.count_released.new.self) buffer =
-    subst (λ (y : Seat). Balanced (set seats k y) buffer) (sym new) (balanced_release seats (held s.state.buffer) x buffer taken.taken.all before) in
+    subst (λ (y : Seat). Balanced (set seats k y) buffer) (sym new) (balanced_release seats s.state.buffer x buffer taken.all before) in
     record {
       few = after.few;
       tallied = balanced_tallied _ _ after;
       sent = balanced_sent _ _ after;
       pending = balanced_pending _ _ after;
       trades = balanced_trades _ _ after;
-      room = taken.limit ∙ s.room;
-      ranked = taken.ranked;
       points = s.points;
       counted = s.counted;
     }

@@ -1,18 +1,10 @@
 -- Each seat in turn has its batch, and the link of the next still has its room.
-use Rattle.std.proofs.Common.{◌≡◌, ◌<◌, true, not, List, length, get_or, vec_items, subst, rules}
+use Rattle.std.proofs.Common.{not, List, get_or, vec_items, subst}
 use Rattle.records.specs.declared.seat.Seat.{Seat}
 use Rattle.records.specs.Seat.{blank, is_ended}
 use Rattle.session.specs.Seal.{SentIf}
-use Rattle.session.proofs.Dealing.{dealt_one, next_accepts}
+use Rattle.session.proofs.Dealing.{dealt_one}
 use Rattle.session.proofs.state.State.deal.Goals as goal
-
-pub deal_one-requires : goal.deal_one-requires
-deal_one-requires g c = λ here.
-    let seats = vec_items c.args.self.now.seats in
-    let k = c.loop-k.k in
-    let inside : k < length seats = search rules in
-    next_accepts seats (g.F.Network.meaning c.args.forward.now) (g.F.Network.meaning c.loop-k.forward) k c.args.at c.args.batch inside c.requires.timely (c.requires.room k) c.loop-k.invariant
-    (subst (λ (s : List Seat). not (is_ended (get_or s k blank).condition) ≡ true) c.deref-seat-items.ensures.value here)
 
 pub loop-k-preserved : goal.loop-k-preserved
 loop-k-preserved g c =

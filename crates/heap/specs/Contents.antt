@@ -1,0 +1,15 @@
+-- What a heap holds, and what always holds of the vector that it is kept in.
+use Rattle.std.specs.Prelude.{ℕ, ◌≤◌, List, length}
+use Rattle.heap.specs.Heaps.{Heaped}
+
+-- the elements, the root first, and how many there may be
+pub record Contents (X : Type 0) : Type 0 where
+  pub items : List X
+  pub bound : ℕ
+
+-- a vector with room for so many has room for as many elements as there may be, holds no more, and holds them in the
+-- order R
+pub record Sound {X : Type 0} (R : X → X → Type 0) (items : List X) (capacity bound : ℕ) : Type 0 where
+  pub room : bound ≤ capacity
+  pub within : length items ≤ bound
+  pub ordered : Heaped R items
