@@ -55,7 +55,8 @@ impl<R: Reading> StopClock for Clock<R> {
     }
 }
 
-// `Clone` is not derived: that it cannot fail would rest on the size of a list of hands, and so of any reading.
+// Written by hand: derived, `search` did not prove that it cannot fail, which would rest on the size of a list of hands, and
+// so of any reading.
 impl<R: Reading> Clone for Clock<R> {
     ghost is_clone = { λ x y. y ≡ x };
 

@@ -48,7 +48,7 @@ impl<R: Reading> Hand<R> {
     }
 }
 
-// Written by hand: the derive was tried, and says that `Clone` cannot be derived for a struct with a ghost field.
+// Written by hand: `derive(Clone, Copy)` was tried, and is refused for a struct with a ghost field and a type parameter.
 impl<R: Reading> Clone for Hand<R> {
     ghost is_clone = { λ x y. y ≡ x };
 

@@ -35,7 +35,7 @@ fn opened(rt: &impl Abort, heap: Global, seats: usize) -> Result<Session, Fail> 
 }
 
 impl<'a> Desk<'a> {
-    // Over links that take 5, and lists without lines.
+    // Over links that take 5, and lists without lines. Each list is lent on its own, so that a test can look at it later.
     pub fn new(
         rt: &impl Abort,
         heap: Global,

@@ -37,10 +37,10 @@ fn a_rejected_ticket_drops_all(rt: HostRuntime) -> Result<(), Fail> {
 }
 
 // That events are these calls in turn, with these answers.
-fn tell(rt: &impl Abort, events: &[Event], calls: &[Call], answers: &[Answer]) {
-    assert_eq!(rt; events.len(), calls.len());
-    for ((event, call), answer) in events.iter().zip(calls.iter()).zip(answers.iter()) {
-        assert_eq!(rt; (event.call(), answer_of(*event)), (*call, *answer));
+fn tell(rt: &impl Abort, events: &[Event], rows: &[(Call, Answer)]) {
+    assert_eq!(rt; events.len(), rows.len());
+    for (event, row) in events.iter().zip(rows) {
+        assert_eq!(rt; (event.call(), answer_of(*event)), *row);
     }
 }
 
@@ -100,60 +100,47 @@ fn calls_are_played_in_turn(rt: HostRuntime) -> Result<(), Fail> {
         side: Side::Sell,
         ..buy(1, 9, 8)
     };
-    let calls = [
-        Call::Point { at: 0, value: 77 },
-        Call::Seal { at: 0 },
-        Call::Deliver { at: 5, seat: 0 },
-        Call::Deliver { at: 5, seat: 1 },
-        Call::Deliver { at: 5, seat: 2 },
-        Call::Submit {
-            at: 6,
-            seat: 0,
-            offer: buy(1, 10, 5),
-        },
-        Call::Submit {
-            at: 7,
-            seat: 1,
-            offer: sell,
-        },
-        Call::Beat { at: 7, seat: 0 },
-        Call::Collect { at: 12, seat: 0 },
-        Call::Collect { at: 12, seat: 0 },
-        Call::End { at: 12, seat: 0 },
-        Call::End { at: 12, seat: 1 },
-        Call::Collect { at: 17, seat: 0 },
-        Call::Collect { at: 17, seat: 1 },
-        Call::Collect { at: 17, seat: 1 },
-        Call::Release,
-        Call::Release,
-        Call::Release,
+    let rows = [
+        (Call::Point { at: 0, value: 77 }, Number(1)),
+        (Call::Seal { at: 0 }, Number(1)),
+        (Call::Deliver { at: 5, seat: 0 }, Given(1, 1, 1)),
+        (Call::Deliver { at: 5, seat: 1 }, Given(1, 1, 1)),
+        (Call::Deliver { at: 5, seat: 2 }, RefusedAt(11, 2)),
+        (
+            Call::Submit {
+                at: 6,
+                seat: 0,
+                offer: buy(1, 10, 5),
+            },
+            Number(1),
+        ),
+        (
+            Call::Submit {
+                at: 7,
+                seat: 1,
+                offer: sell,
+            },
+            Number(1),
+        ),
+        (Call::Beat { at: 7, seat: 0 }, Sent),
+        (Call::Collect { at: 12, seat: 0 }, TookTrade),
+        (Call::Collect { at: 12, seat: 0 }, TookBeat),
+        (Call::End { at: 12, seat: 0 }, Sent),
+        (Call::End { at: 12, seat: 1 }, Sent),
+        (Call::Collect { at: 17, seat: 0 }, TookEnd),
+        (Call::Collect { at: 17, seat: 1 }, TookTrade),
+        (Call::Collect { at: 17, seat: 1 }, TookEnd),
+        (Call::Release, Released(1, 0, 1)),
+        (Call::Release, Released(2, 1, 1)),
+        (Call::Release, Refused(60)),
     ];
-    let answers = [
-        Number(1),
-        Number(1),
-        Given(1, 1, 1),
-        Given(1, 1, 1),
-        RefusedAt(11, 2),
-        Number(1),
-        Number(1),
-        Sent,
-        TookTrade,
-        TookBeat,
-        Sent,
-        Sent,
-        TookEnd,
-        TookTrade,
-        TookEnd,
-        Released(1, 0, 1),
-        Released(2, 1, 1),
-        Refused(60),
-    ];
+    let calls = rows.map(|row| row.0);
     let mut points = [0; 2];
     let mut tape = [Line::default(); 2];
     let mut fills = [Fill::default(); 1];
     let played = play_two(rt.alloc(), &mut points, &mut tape, &mut fills, &calls)?;
     assert!(rt; played.session.settled());
-    tell(&rt, &played.events, &calls, &answers);
+    tell(&rt, &played.events, &rows);
     let booked = Booked {
         filled: 5,
         rested: 3,

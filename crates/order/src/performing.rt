@@ -19,6 +19,7 @@ use std::alloc::{AllocError, Global};
 
 // Makes the calls in turn, booking each ticket, and answers each call with its answer. Where there is no memory for the
 // events, no call is made.
+// `act` says why the worlds are spelled out.
 pub fn perform<F: Network<Batch>, R: Network<Message>, C: StopClock>(
     heap: Global,
     session: &mut Session,

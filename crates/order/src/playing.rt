@@ -29,6 +29,7 @@ pub struct Played {
 
 // Opens the layout and makes the calls in turn, booking each ticket. Where there is no memory for the events, no call is
 // made.
+// `act` says why the worlds are spelled out.
 pub fn play<F: Network<Batch>, R: Network<Message>, C: StopClock>(
     heap: Global,
     layout: Layout,

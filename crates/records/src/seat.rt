@@ -40,7 +40,7 @@ pub enum SeatCall {
 
 // One member's record: the last batch and the last point delivered, how many of its trades were submitted, collected and
 // released, and how far its messages are known. The batch and the point are no part of the condition: an ended seat keeps
-// them, and a bare one's tag reads them as 0. The seat's number is its place in the session's table and no field, which would
+// them, and a bare one's tag reads batch 0. The seat's number is its place in the session's table and no field, which would
 // say it twice; so calls that name it in a refusal are given both.
 #[derive(Clone, Copy, Debug, PartialEq, Eq)]
 pub struct Seat {

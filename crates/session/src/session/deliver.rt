@@ -30,6 +30,7 @@ impl Session {
             });
         }
         record.check_pace(seat, clock.since(seat, at), self.state.times.horizon)?;
+        // It was asked above, since the pace is checked in between.
         let Some(batch) = forward.take(seat, at) else {
             unreachable()
         };

@@ -23,10 +23,10 @@ impl Session {
         if self.state.market.unsealed >= BATCH_ROOM {
             return Err(Refusal::BatchFull);
         }
-        if !points.has_room() || self.state.market.points >= POINTS_ROOM {
+        if self.state.market.points >= POINTS_ROOM {
             return Err(Refusal::PointsFull);
         }
-        let _ = points.write(value);
+        points.write(value).map_err(|_| Refusal::PointsFull)?;
         self.state.market.points += 1;
         self.state.market.unsealed += 1;
         self.state.last = at;

@@ -31,6 +31,7 @@ impl State {
     pub fn lowest_crowded<F: Network<Batch>>(&self, forward: &F) -> Option<usize>
         ensures { result ≡ lowest (crowded self.now.seats.items (F.Network.meaning forward.now)) (length self.now.seats.items) }
     {
+        // `find` over the places was tried, and got no proof.
         for (k, seat) in self.seats.iter().enumerate() {
             if is_crowded(forward, k, seat) {
                 return Some(k);

@@ -18,6 +18,7 @@ impl State {
     pub fn holder(&self, trade: &Trade) -> Option<usize>
         ensures { MatchOption result (Clear self.now.seats.items trade.now) (λ j. Holds self.now.seats.items trade.now j) }
     {
+        // `find` over the places was tried, and got no proof.
         for (k, seat) in self.seats.iter().enumerate() {
             if k != trade.seat && !seat.watermark.above(&trade.tag) {
                 return Some(k);
