@@ -5,9 +5,10 @@ mod calls;
 mod places;
 mod sift;
 
-// At most `limit` elements, for which room is reserved. It is no `BinaryHeap`, whose push may want memory, and whose elements
-// are equal where none precedes the other. `T` need be neither `Copy` nor `Drop`: elements are only moved,
-// so that already the types let none be doubled or lost.
+// At most `limit` elements, for which room is reserved. `T` need be neither `Copy` nor `Drop`: elements are only moved, so
+// that already the types let none be doubled or lost.
+//
+// It is no `BinaryHeap`: that one's push may want memory, and its elements are equal where none precedes the other.
 #[derive(Drop)]
 pub struct Heap<T: Ranked> {
     items: Vec<T>,

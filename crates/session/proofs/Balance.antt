@@ -1,6 +1,6 @@
 -- The seats' counts agree with the buffer at the start, and still do after each change of a seat or of the buffer. So
 -- each trade there is of a seat, and the buffer has room for any that is yet to be collected.
-use Rattle.std.proofs.Common.{◌≡◌, ℕ, zero, suc, ◌+◌, ◌*◌, ◌<◌, ◌≤◌, true, cond, ◌&&◌, eqb, ltb, leb, List, [], ◌∷◌, length, get_or, set, count_by, sym, refl, ap, ◌∙◌, subst, ⊎_elim, arith, length-set, get_or-set_other, get_or-set_same}
+use Rattle.std.proofs.Common.{◌≡◌, ℕ, zero, suc, ◌+◌, ◌*◌, ◌<◌, ◌≤◌, true, cond, ◌&&◌, eqb, ltb, leb, List, [], ◌∷◌, length, get_or, set, count_by, vec_items, sym, refl, ap, ◌∙◌, subst, ⊎_elim, arith, length-set, get_or-set_other, get_or-set_same}
 use Rattle.std.proofs.lemmas.List.{get_or_past}
 use Rattle.std.specs.List.Sorted.{IsPermutation}
 use Rattle.std.specs.List.{ContainsAt, AllByRecursion}
@@ -17,6 +17,7 @@ use Rattle.records.specs.declared.trade.Trade.{Trade}
 use Rattle.records.specs.Seat.{is_next}
 use Rattle.records.specs.Seat.{blank, collected_with, released_once}
 use Rattle.records.specs.Offer.{most_pending, most_trades}
+use Rattle.session.specs.declared.session.Session.{Session}
 use Rattle.session.specs.Balance.{FewPending, FewTrades, SentFirst, Tallied, buffer_room, of_seat}
 use Rattle.session.specs.Collect.{Put}
 use Rattle.session.specs.Opening.{most_seats}
@@ -68,12 +69,16 @@ none_from n k [] le h = refl
 none_from n k (x ∷ xs) le h = of_seat_other k x xs (λ e. let lt = h.0 in omega arith) ∙ none_from n k xs le h.1
 
 -- the four facts that a session keeps, seat by seat
-pub balanced : (seats : List Seat) (buffer : List Trade) → length seats ≤ most_seats → Tallied seats buffer → SentFirst seats → FewPending seats → FewTrades seats → Balanced seats buffer
+balanced : (seats : List Seat) (buffer : List Trade) → length seats ≤ most_seats → Tallied seats buffer → SentFirst seats → FewPending seats → FewTrades seats → Balanced seats buffer
 balanced seats buffer few tallied sent pending trades = record {
   few = few;
   known = known_below (length seats) buffer (λ k le. let t = tallied k in let e = get_or_past seats k blank le in let c = ap (λ (s : Seat). s.collected) e in omega arith);
   tallied = λ k lt. record { in_buffer = tallied k; sent = sent k; pending = pending k; most = trades k };
 }
+
+-- so every session is balanced
+pub in_balance : (s : Session) → Balanced (vec_items s.state.seats) s.state.buffer
+in_balance s = balanced (vec_items s.state.seats) s.state.buffer s.few s.tallied s.sent s.pending s.trades
 
 -- what holds of each seat's counts holds of every number, since a seat that does not exist has none
 each_seat : (seats : List Seat) (buffer : List Trade) → Balanced seats buffer → (k : ℕ) → Counts (get_or seats k blank) (of_seat k buffer)

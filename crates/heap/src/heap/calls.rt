@@ -46,7 +46,7 @@ impl<T: Ranked> Heap<T> {
     pub fn peek(&self) -> Option<&T>
         ensures { Peeks (Upto T.key T.upto) self.now.items result }
     {
-        first(&self.items)
+        root(self.items.as_slice())
     }
 
     // Takes an element in, or hands it back where the heap holds as many as it may.
@@ -75,10 +75,10 @@ impl<T: Ranked> Heap<T> {
 }
 
 // The element at the root, if there is one.
-fn first<T>(items: &Vec<T>) -> Option<&T>
-    ensures { IsGetResult items.now.items 0 0 result }
+fn root<T>(items: &[T]) -> Option<&T>
+    ensures { IsGetResult items.now 0 0 result }
 {
-    items.as_slice().first()
+    items.first()
 }
 
 // Puts an element at the end, in room that is reserved, and answers its place.

@@ -2,7 +2,7 @@ use Rattle.std.proofs.Common.{set, vec_items, sym, refl, ap, ◌∙◌, subst, r
 use Rattle.records.specs.declared.seat.Seat.{Seat}
 use Rattle.records.specs.Seat.{released_once}
 use Rattle.session.specs.Release.{held_up, no_line}
-use Rattle.session.proofs.Balance.{Balanced, balanced, balanced_pending, balanced_release, balanced_sent, balanced_tallied, balanced_trades, held_known}
+use Rattle.session.proofs.Balance.{Balanced, in_balance, balanced_pending, balanced_release, balanced_sent, balanced_tallied, balanced_trades, held_known}
 use Rattle.heap.proofs.Roots.{root_has}
 use Rattle.session.proofs.session.Session.release.Goals as goal
 
@@ -34,7 +34,7 @@ seat_mut-requires c =
     let buffer = s.state.buffer in
     let x = c.in-Some.head in
     let first = c.in-Some.ensures in
-    let known = held_known seats buffer x (root_has buffer x x first.0 first.1 refl) (balanced seats buffer s.few s.tallied s.sent s.pending s.trades) in
+    let known = held_known seats buffer x (root_has buffer x x first.0 first.1 refl) (in_balance s) in
     search rules
 
 pub invariant_of-self : goal.invariant_of-self
@@ -45,7 +45,7 @@ invariant_of-self c =
     let k = x.seat in
     let taken = c.take.ensures in
     let buffer = c.take.new.self in
-    let before = balanced seats s.state.buffer s.few s.tallied s.sent s.pending s.trades in
+    let before = in_balance s in
     let new = c.count_released.ensures ∙ ap released_once c.seat_mut.ensures.value in
     let after : Balanced (set seats k c.count_released.new.self) buffer =
     subst (λ (y : Seat). Balanced (set seats k y) buffer) (sym new) (balanced_release seats s.state.buffer x buffer taken.all before) in
