@@ -186,10 +186,10 @@ module _ {X Y : Type 0} (there : Kind X) (here : Kind Y) (laws : Lawful there) (
 -- of two outcomes of an accepted order each part is the same
 by_side : (s : Side) (b b' b'' : Book) (o : Order) (p p' p'' : Page Fill) (fills fills' : List Fill) (r r'' : Booked) → b'.taken ≡ b''.taken → Written p fills p' → Written p fills' p'' → BySide s b o (full p') fills b' r → BySide s b o (full p'') fills' b'' r'' → Alike b' p' r b'' p'' r''
 by_side side.Buy b b' b'' o p p' p'' fills fills' r r'' n w w' d d' =
-    let h = one_deal resting_sells resting_buys lawful_sells o b.taken b.sells b.buys p b.sells_numbered p' p'' b'.sells b''.sells b'.buys b''.buys fills fills' r r'' w w' d.dealt d'.dealt in
+    let h = one_deal resting_sells resting_buys lawful_sells o b.taken b.sells.items b.buys.items p b.sells_numbered p' p'' b'.sells.items b''.sells.items b'.buys.items b''.buys.items fills fills' r r'' w w' d.dealt d'.dealt in
     record { buys = h.1; sells = h.0; taken = n; list = h.2; booked = h.3 }
 by_side side.Sell b b' b'' o p p' p'' fills fills' r r'' n w w' d d' =
-    let h = one_deal resting_buys resting_sells lawful_buys o b.taken b.buys b.sells p b.buys_numbered p' p'' b'.buys b''.buys b'.sells b''.sells fills fills' r r'' w w' d.dealt d'.dealt in
+    let h = one_deal resting_buys resting_sells lawful_buys o b.taken b.buys.items b.sells.items p b.buys_numbered p' p'' b'.buys.items b''.buys.items b'.sells.items b''.sells.items fills fills' r r'' w w' d.dealt d'.dealt in
     record { buys = h.0; sells = h.1; taken = n; list = h.2; booked = h.3 }
 
 -- what is taken by the rules is settled: they allow no other outcome
@@ -206,8 +206,8 @@ settled b o p b' p' r t = record {
       let y = when_false _ _ e u.took in
       let same : b' ≡ b'' = x.same ∙ sym y.same in
       record {
-        buys = same_refl _ _ (ap (λ (z : Book). z.buys) same);
-        sells = same_refl _ _ (ap (λ (z : Book). z.sells) same);
+        buys = same_refl _ _ (ap (λ (z : Book). z.buys.items) same);
+        sells = same_refl _ _ (ap (λ (z : Book). z.sells.items) same);
         taken = ap (λ (z : Book). z.taken) same;
         list = one_page p p' p'' t.fills u.fills (x.none ∙ sym y.none) t.written u.written;
         booked = x.dropped ∙ sym y.dropped;

@@ -1,5 +1,6 @@
--- What always holds of the two sides of a book: no buy crosses a sell, and arrival numbers tell the orders of a side apart.
-use Rattle.std.specs.Prelude.{ℕ, ◌<◌, ◌≤◌, if◌then◌else◌, List, count_by, nat_eq, nat_lt}
+-- What always holds of the two sides of a book: neither is too long, no buy crosses a sell, and arrival numbers tell the
+-- orders of a side apart.
+use Rattle.std.specs.Prelude.{ℕ, ◌<◌, ◌≤◌, if◌then◌else◌, List, length, count_by, nat_eq, nat_lt}
 use Rattle.std.specs.List.{ContainsAt}
 use Rattle.book.specs.declared.quote.Buy.{Buy}
 use Rattle.book.specs.declared.quote.Sell.{Sell}
@@ -8,6 +9,10 @@ use Rattle.book.specs.Quote.{Kind}
 -- a side holds so many orders at most
 abbrev pub room : ℕ
 room = 256
+
+-- and never more
+abbrev pub Few : {X : Type 0} → List X → Type 0
+Few xs = length xs ≤ room
 
 -- every buy is below every sell, and so the best buy below the best sell
 abbrev pub Apart : List Buy → List Sell → Type 0

@@ -3,18 +3,12 @@
 use Rattle.std.specs.Prelude.{◌≡◌, ℕ, ◌+◌, Bool, true, false, if◌then◌else◌, List, [], ◌∷◌, ◌++◌, Option, MatchOption, nat_lt}
 use Rattle.std.specs.List.Sorted.{IsPermutation}
 use Rattle.std.specs.List.{AllByRecursion, ContainsAt}
-use Rattle.heap.specs.Contents.{Contents}
 use Rattle.book.specs.declared.order.Order.{Order}
 use Rattle.book.specs.declared.order.Resting.{Resting}
 use Rattle.book.specs.declared.fill.Fill.{Fill}
 use Rattle.book.specs.Order.{less}
 use Rattle.book.specs.Fill.{fill_of}
 use Rattle.book.specs.Quote.{Kind}
-use Rattle.book.specs.Book.{room}
-
--- a side as what its heap holds, and may hold
-abbrev pub side : {X : Type 0} → List X → Contents X
-side xs = record { items = xs; bound = room }
 
 module _ {X : Type 0} (k : Kind X) where
   -- the first ranks before the second, or they rank alike

@@ -25,8 +25,8 @@ pub record Served {X Y : Type 0} (there : Kind X) (here : Kind Y) (o : Order) (a
 
 -- a buy meets the sells and rests with the buys, and a sell the other way round
 abbrev pub BySide : Side → Book → Order → (full : Bool) → List Fill → Book → Booked → Type 0
-BySide Buy b o full fills b' r = Served resting_sells resting_buys o b.taken full b.sells b'.sells b.buys b'.buys fills r
-BySide Sell b o full fills b' r = Served resting_buys resting_sells o b.taken full b.buys b'.buys b.sells b'.sells fills r
+BySide Buy b o full fills b' r = Served resting_sells resting_buys o b.taken full b.sells.items b'.sells.items b.buys.items b'.buys.items fills r
+BySide Sell b o full fills b' r = Served resting_buys resting_sells o b.taken full b.buys.items b'.buys.items b.sells.items b'.sells.items fills r
 
 -- the order is counted, its number is its arrival, and it is served
 pub record Accepted (b : Book) (o : Order) (full : Bool) (fills : List Fill) (b' : Book) (r : Booked) : Type 0 where
@@ -51,8 +51,8 @@ Same {X} xs ys = ((x : X) → ContainsAt xs x → ContainsAt ys x) × ((x : X) �
 
 -- two outcomes are one
 pub record Alike (b : Book) (p : Page Fill) (r : Booked) (b' : Book) (p' : Page Fill) (r' : Booked) : Type 0 where
-  pub buys : Same b.buys b'.buys
-  pub sells : Same b.sells b'.sells
+  pub buys : Same b.buys.items b'.buys.items
+  pub sells : Same b.sells.items b'.sells.items
   pub taken : b.taken ≡ b'.taken
   pub list : p ≡ p'
   pub booked : r ≡ r'

@@ -1,5 +1,5 @@
 ghost use Rattle.book.specs.Quote.{resting_buys, resting_sells};
-ghost use Rattle.book.specs.Book.{Apart, Numbered};
+ghost use Rattle.book.specs.Book.{Apart, Few, Numbered};
 
 use crate::quote::{Buy, Sell};
 use crate::side::Quotes;
@@ -10,15 +10,18 @@ mod take_order;
 #[cfg(test)]
 mod tests;
 
-// Two sides of resting orders, and how many orders were taken.
+// Two sides of resting orders, at most 256 each, and how many orders were taken.
 #[derive(Drop)]
 pub struct Book {
     buys: Quotes<Buy>,
     sells: Quotes<Sell>,
     taken: u32,
+    // No side passes its room.
+    ghost buys_few: { Few buys.items },
+    ghost sells_few: { Few sells.items },
     // Every buy stands below every sell.
-    ghost apart: { Apart buys sells },
+    ghost apart: { Apart buys.items sells.items },
     // No two orders of a side have one arrival number.
-    ghost buys_numbered: { Numbered resting_buys taken buys },
-    ghost sells_numbered: { Numbered resting_sells taken sells },
+    ghost buys_numbered: { Numbered resting_buys taken buys.items },
+    ghost sells_numbered: { Numbered resting_sells taken sells.items },
 }

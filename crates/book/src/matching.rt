@@ -14,8 +14,8 @@ impl<S: Quote + Drop> Quotes<S> {
     // Meets the orders of a side, first to last, while quantity is left, a line is free and prices cross. What is left: no
     // part of the order, since it falls while the order stays, and the rules speak of both.
     fn meet(&mut self, order: &Order, fills: &mut Lines<Fill>) -> u32
-        ensures matched { Meeting S.Quote.kind order.now self.old (page fills.old) self.new (page fills.new) result }
-        ensures longest { Longest S.Quote.kind order.now (full (page fills.new)) self.new result }
+        ensures matched { Meeting S.Quote.kind order.now self.old.items (page fills.old) self.new.items (page fills.new) result }
+        ensures longest { Longest S.Quote.kind order.now (full (page fills.new)) self.new.items result }
         ensures same { fills.new.lines.ghost_name ≡ fills.old.lines.ghost_name }
     {
         let mut left = order.quantity;
@@ -39,7 +39,7 @@ impl<S: Quote + Drop> Quotes<S> {
         left: u32,
         arrival: u32,
     ) -> u32
-        ensures { Rests O.Quote.kind S.Quote.kind order.now arrival left room opposite.now self.old self.new result }
+        ensures { Rests O.Quote.kind S.Quote.kind order.now arrival left room opposite.now.items self.old.items self.new.items result }
     {
         if left == 0 || opposite.crossed(order.price) {
             return 0;
@@ -59,7 +59,7 @@ pub(crate) fn deal<O: Quote + Drop, W: Quote + Drop>(
     arrival: u32,
     fills: &mut Lines<Fill>,
 ) -> Booked
-    ensures dealt { Deals O.Quote.kind W.Quote.kind order.now arrival room opposite.old opposite.new own.old own.new (page fills.old) (page fills.new) result }
+    ensures dealt { Deals O.Quote.kind W.Quote.kind order.now arrival room opposite.old.items opposite.new.items own.old.items own.new.items (page fills.old) (page fills.new) result }
     ensures same { fills.new.lines.ghost_name ≡ fills.old.lines.ghost_name }
 {
     let before = fills.used();

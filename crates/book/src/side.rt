@@ -3,7 +3,7 @@ ghost use Rattle.std.specs.Prelude.{◌≡◌, ◌<◌, [], ◌++◌, length, If
 ghost use Rattle.std.specs.List.Sorted.{IsPermutation};
 ghost use Rattle.heap.specs.Calls.{Adds};
 ghost use Rattle.book.specs.Book.{room};
-ghost use Rattle.book.specs.Side.{Best, MeetsBest, any_crosses, left_over, side};
+ghost use Rattle.book.specs.Side.{Best, MeetsBest, any_crosses, left_over};
 
 use crate::fill::{Fill, fill_of};
 use crate::order::{Order, Resting};
@@ -21,14 +21,15 @@ pub(crate) struct Quotes<S: Quote> {
     heap: Heap<S>,
 }
 
-// Contracts see the quotes, the first of them at the front. There is always room for so many as a side may hold.
+// Contracts see what the heap holds, the first quote at the front. There is always room for so many as a side may hold.
 impl<S: Quote> Model for Quotes<S> {
-    ghost use Rattle.std.specs.Prelude.{◌≡◌, List};
+    ghost use Rattle.std.specs.Prelude.{◌≡◌};
+    ghost use Rattle.heap.specs.Contents.{Contents};
     ghost use Rattle.book.specs.Book.{room};
 
-    ghost Value = { List S };
+    ghost Value = { Contents S };
 
-    ghost view = { λ q. q.heap.items };
+    ghost view = { λ q. q.heap };
 
     ghost invariant = { λ q. q.heap.bound ≡ room };
 }
@@ -36,7 +37,7 @@ impl<S: Quote> Model for Quotes<S> {
 impl<S: Quote> Quotes<S> {
     // A side on which nothing rests, with all the memory that it will ever need.
     pub(crate) fn new(heap: Global) -> Result<Quotes<S>, AllocError>
-        ensures { IfOk result (λ q. q ≡ []) }
+        ensures { IfOk result (λ q. q.items ≡ []) }
     {
         let heap = Heap::with_room(heap, ROOM)?;
         Ok(Quotes { heap })
@@ -44,14 +45,14 @@ impl<S: Quote> Quotes<S> {
 
     // The first order.
     pub(crate) fn best(&self) -> Option<Resting>
-        ensures { Best S.Quote.kind self.now result }
+        ensures { Best S.Quote.kind self.now.items result }
     {
         Some(self.heap.peek()?.order())
     }
 
     // Whether some order crosses a price: the first does, or none.
     pub(crate) fn crossed(&self, price: u32) -> bool
-        ensures { result ≡ any_crosses S.Quote.kind price self.now }
+        ensures { result ≡ any_crosses S.Quote.kind price self.now.items }
     {
         match self.heap.peek() {
             Some(first) => first.crosses(price),
@@ -63,15 +64,16 @@ impl<S: Quote> Quotes<S> {
 impl<S: Quote + Drop> Quotes<S> {
     // Takes a quote in, or hands it back where the side holds as many as it may.
     pub(crate) fn add(&mut self, quote: S) -> Result<(), S>
-        ensures { Adds (side self.old) quote result (side self.new) }
+        ensures added { Adds self.old quote result self.new }
+        ensures room { self.old.bound ≡ room }
     {
         self.heap.add(quote)
     }
 
     // Puts back what is left of a resting order once `taken` of it is gone.
     fn put_back(&mut self, resting: Resting, taken: u32)
-        requires { length self.old < room }
-        ensures { IsPermutation (left_over S.Quote.kind taken resting ++ self.old) self.new }
+        requires { length self.old.items < room }
+        ensures { IsPermutation (left_over S.Quote.kind taken resting ++ self.old.items) self.new.items }
     {
         if taken < resting.quantity {
             let _ = self.add(S::quote(resting.less(taken)));
@@ -80,7 +82,7 @@ impl<S: Quote + Drop> Quotes<S> {
 
     // Meets the first order where it crosses; what is left of that one rests again.
     pub(crate) fn fill_first(&mut self, order: &Order, left: u32) -> Option<Fill>
-        ensures { MeetsBest S.Quote.kind order.now left self.old result self.new }
+        ensures { MeetsBest S.Quote.kind order.now left self.old.items result self.new.items }
     {
         if !self.crossed(order.price) {
             return None;

@@ -64,11 +64,14 @@ fn placed(outcome: Outcome) -> Answer {
 
 // All is dropped, and nothing else became of it.
 fn dropped(outcome: Outcome) -> Answer {
-    let dropped = outcome.booked.dropped;
-    if outcome.booked == Booked::all_dropped(dropped) {
-        Answer::Dropped(dropped)
-    } else {
-        Answer::Lost
+    match outcome.booked {
+        Booked {
+            filled: 0,
+            rested: 0,
+            dropped,
+            fills: 0,
+        } => Answer::Dropped(dropped),
+        _ => Answer::Lost,
     }
 }
 

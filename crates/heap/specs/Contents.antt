@@ -2,10 +2,11 @@
 use Rattle.std.specs.Prelude.{ℕ, ◌≤◌, List, length}
 use Rattle.heap.specs.Heaps.{Heaped}
 
--- the elements, the root first, and how many there may be
+-- the elements, the root first, how many there may be, and for how many there is memory
 pub record Contents (X : Type 0) : Type 0 where
   pub items : List X
   pub bound : ℕ
+  pub reserved : ℕ
 
 -- a vector with room for so many has room for as many elements as there may be, holds no more, and holds them in the
 -- order R

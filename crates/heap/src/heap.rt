@@ -15,7 +15,8 @@ pub struct Heap<T: Ranked> {
     limit: usize,
 }
 
-// Contracts see what the heap holds and how much it may hold. Its elements always stand in order.
+// Contracts see what the heap holds, how much it may hold, and how much there is memory for. Its elements always stand in
+// order.
 impl<T: Ranked> Model for Heap<T> {
     ghost use Rattle.std.specs.Prelude.{vec_capacity};
     ghost use Rattle.heap.specs.Contents.{Contents, Sound};
@@ -23,7 +24,7 @@ impl<T: Ranked> Model for Heap<T> {
 
     ghost Value = { Contents T };
 
-    ghost view = { λ h. record { items = h.items.items; bound = h.limit } };
+    ghost view = { λ h. record { items = h.items.items; bound = h.limit; reserved = vec_capacity h.items } };
 
     ghost invariant = { λ h. Sound (Upto T.key T.upto) h.items.items (vec_capacity h.items) h.limit };
 }

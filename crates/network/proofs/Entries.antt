@@ -1,15 +1,16 @@
 -- Delays by link and by recorded list.
-use Rattle.std.proofs.Common.{◌≡◌, ℕ, zero, suc, ◌+◌, ◌%◌, ◌<◌, ◌≤◌, Bool, true, false, cond, eqb, ◌⊎◌, List, length, get_or, set, replicate, sym, refl, ap, ◌∙◌, inl, inr, ⊎_elim, arith}
+use Rattle.std.proofs.Common.{◌≡◌, ℕ, zero, suc, ◌+◌, ◌%◌, ◌<◌, ◌≤◌, Bool, true, false, cond, eqb, ◌⊎◌, List, [], ◌∷◌, length, get_or, set, replicate, sym, refl, ap, ◌∙◌, inl, inr, ⊎_elim, arith}
 use Rattle.std.proofs.Math.Path.{fun_ext}
 use Rattle.std.proofs.Math.Nat.{mod-add-mod}
 use Rattle.std.proofs.lemmas.List.{get_or-set_same, get_or-set_other, get_or_past}
-use Rattle.std.proofs.lemmas.List.Recursion.{max_bounds}
 use Rattle.std.proofs.lemmas.Bool.Decides.{eqb_tells}
 use Rattle.network.specs.Delays.{Next, greatest, entry, traced_delay}
 
 -- no delay passes the greatest
-pub within_greatest : (ds : List ℕ) (k : ℕ) → k < length ds → get_or ds k 0 ≤ greatest ds
-within_greatest ds k h = max_bounds greatest (λ d. d) refl (λ _ _. refl) ds k 0 h
+pub within_greatest : (ds : List ℕ) (k : ℕ) → get_or ds k 0 ≤ greatest ds
+within_greatest [] k = omega arith
+within_greatest (d ∷ ds) zero = omega arith
+within_greatest (d ∷ ds) (suc k) = omega (arith, within_greatest ds k)
 
 -- an empty list has no delay
 pub entry_none : (ds : List ℕ) (n : ℕ) → length ds ≡ 0 → entry ds n ≡ 0
@@ -29,7 +30,7 @@ entry_following ds a n = ⊎_elim none some (eqb_tells (length ds) 0)
         ∙ ap (λ (t : ℕ). get_or ds t 0) (ap (λ (t : ℕ). t % length ds) e ∙ mod-add-mod a (length ds) (suc n))
 
 -- a link that stands one place on has its delays one record earlier, and the others have theirs
-traced_following : (ds at : List ℕ) (k b : ℕ) → k < length at → b ≡ cond (eqb (length ds) 0) 0 (get_or at k 0 % length ds + 1) →
+pub traced_following : (ds at : List ℕ) (k b : ℕ) → k < length at → b ≡ cond (eqb (length ds) 0) 0 (get_or at k 0 % length ds + 1) →
     traced_delay ds (set at k b) ≡ (λ j n. traced_delay ds at j (cond (eqb j k) (suc n) n))
 traced_following ds at k b l h = fun_ext (λ j. fun_ext (λ n. go j n (eqb j k) (eqb_tells j k)))
   where
@@ -58,5 +59,5 @@ get_or_replicate_everywhere (suc n) x zero = refl
 get_or_replicate_everywhere (suc n) x (suc k) = get_or_replicate_everywhere n x k
 
 -- links that stand at the start
-pub traced_start : (ds : List ℕ) → traced_delay ds (replicate 16 0) ≡ (λ _ n. entry ds n)
-traced_start ds = fun_ext (λ k. fun_ext (λ n. let e : get_or (replicate 16 0) k 0 + n ≡ n = omega (arith, get_or_replicate_everywhere {X = ℕ} 16 0 k) in ap (entry ds) e))
+pub traced_start : (ds at : List ℕ) → ((k : ℕ) → get_or at k 0 ≡ 0) → traced_delay ds at ≡ (λ _ n. entry ds n)
+traced_start ds at h = fun_ext (λ k. fun_ext (λ n. let e : get_or at k 0 + n ≡ n = omega (arith, h k) in ap (entry ds) e))

@@ -196,17 +196,24 @@ module _ {R : Type 0} (c : ℕ) (xs : List (Slot R)) (rs : List Ring) (delay : �
         formula = ap delayed next.after;
       }
 
--- the same of values that are known by equations
+  -- the same of values that are known by equations
+  pub ringed_sent : (m d : ℕ) (x : R) (delay' : ℕ → ℕ → ℕ) (c' slot a longest' : ℕ) (r : Ring) →
+      c' ≡ c → slot ≡ place c k (get_or rs k blank).head (get_or rs k blank).count → a ≡ capped (earliest (m + d) (get_or rs k blank).last) → r ≡ ring_sent (get_or rs k blank) a → longest' ≡ longest →
+      k < 16 → k < length rs → m < limit → (get_or rs k blank).count < c → unwrap_or (get_or rs k blank).last 0 ≤ limit → 16 * c ≤ length xs → d ≤ longest → Next delay delay' k d →
+      Sent (ringed c xs rs delay longest) (ringed c' (set xs slot (record { arrival = a; item = x })) (set rs k r) delay' longest') k m x
+  ringed_sent m d x delay' c' slot a longest' r ec es ea er el l b e room early fit w next = rw (er, ec, es, ea, el) (ringed_added m d x delay' l b e room early fit w next)
+
+-- the same where the rings share the slots evenly, of a send at a link j that is k
 pub rings_sent : {R : Type 0} (xs : List (Slot R)) (rs : List Ring) (delay delay' : ℕ → ℕ → ℕ) (longest longest' k m d p j t slot a : ℕ) (x : R) (r : Ring) →
     slot ≡ place p j (get_or rs k blank).head (get_or rs k blank).count → a ≡ capped (earliest (m + t) (get_or rs k blank).last) → r ≡ ring_sent (get_or rs k blank) a → longest' ≡ longest →
     t ≡ d → j ≡ k → p ≡ ring_size (length xs) → k < 16 → k < length rs → m < limit → (get_or rs k blank).count < p → unwrap_or (get_or rs k blank).last 0 ≤ limit → d ≤ longest → Next delay delay' k d →
     Sent (ringed (ring_size (length xs)) xs rs delay longest)
     (ringed (ring_size (length (set xs slot (record { arrival = a; item = x })))) (set xs slot (record { arrival = a; item = x })) (set rs k r) delay' longest') k m x
 rings_sent xs rs delay delay' longest longest' k m d p j t slot a x r es ea er el em ej ep l b e room early w next =
-    let room' : (get_or rs k blank).count < ring_size (length xs) = omega arith in
-    let fit : 16 * ring_size (length xs) ≤ length xs = omega arith in
-    let ec : ring_size (length (set xs slot (record { arrival = a; item = x }))) ≡ ring_size (length xs) = simp length-set in
-    rw (er, ec, es, ea, el, em, ej, ep) (ringed_added (ring_size (length xs)) xs rs delay longest k m d x delay' l b e room' early fit w next)
+    let last = (get_or rs k blank).last in
+    let place' = ap (λ q. place q j (get_or rs k blank).head (get_or rs k blank).count) ep ∙ ap (λ q. place (ring_size (length xs)) q (get_or rs k blank).head (get_or rs k blank).count) ej in
+    ringed_sent (ring_size (length xs)) xs rs delay longest k m d x delay' (ring_size (length (set xs slot (record { arrival = a; item = x })))) slot a longest' r
+    (simp length-set) (es ∙ place') (ea ∙ ap (λ q. capped (earliest (m + q) last)) em) er el l b e (omega arith) early (omega arith) w next
 
 -- an unused network is known by its delays
 pub unused_same : {R : Type 0} (n : Net R) (slots longest longest' : ℕ) (delay delay' : ℕ → ℕ → ℕ) → n ≡ unused slots delay longest → delay ≡ delay' → longest ≡ longest' → n ≡ unused slots delay' longest'

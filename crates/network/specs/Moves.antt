@@ -88,7 +88,7 @@ module _ {R : Type 0} (f : ℕ → ℕ) (x : ℕ) where
   none_arrived m [] q h = refl
   none_arrived m (p ∷ ps) q h = grind (arith, nat_tests, q.none p.0)
 
-  none_waits : (n : Net R) (k m : ℕ) → AskNever f m → is_waiting (layered f x n) k m ≡ false
+  pub none_waits : (n : Net R) (k m : ℕ) → AskNever f m → is_waiting (layered f x n) k m ≡ false
   none_waits n k m q = let e = none_arrived m (n.links k).pairs q in grind (arith, nat_tests)
 
   pub none_taken : (n : Net R) (k m : ℕ) (o : Option R) → AskNever f m → o ≡ None → Takes (layered f x n) k m o (layered f x n)

@@ -1,3 +1,4 @@
 pub mod Checking
 pub mod Balance
 pub mod Dealing
+pub mod Heads

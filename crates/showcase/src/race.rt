@@ -23,6 +23,21 @@ pub struct Entry {
     collected: u64,
 }
 
+// What the orders of a race are compared by.
+impl Entry {
+    fn response(&self) -> u64
+        ensures { result ≡ self.now.response }
+    {
+        self.response
+    }
+
+    fn collected(&self) -> u64
+        ensures { result ≡ self.now.collected }
+    {
+        self.collected
+    }
+}
+
 // Whether a batch holds a point.
 fn holds(batch: &Batch, point: u64) -> bool
     ensures { result ≡ holds_point batch.now point }
@@ -156,6 +171,20 @@ fn rises<F: Fn(&Entry) -> u64>(entries: &[Entry], tick: u64, value: F) -> bool
         .is_sorted_by_key(value)
 }
 
+// Whether the responses never fall.
+fn responses_rise(entries: &[Entry], tick: u64) -> bool
+    ensures { IsTrue result ↔ IsNonDecreasing (map (λ e. e.response) (answering tick entries.now)) }
+{
+    rises(entries, tick, Entry::response)
+}
+
+// Whether the moments at which the orders were collected never fall.
+fn arrivals_rise(entries: &[Entry], tick: u64) -> bool
+    ensures { IsTrue result ↔ IsNonDecreasing (map (λ e. e.collected) (answering tick entries.now)) }
+{
+    rises(entries, tick, Entry::collected)
+}
+
 // The number of the tick that an event brought, if it did.
 fn numbered(event: &Event) -> Option<u64> {
     match *event {
@@ -198,8 +227,8 @@ fn print_race(rt: &impl Print, entries: &[Entry], tick: u64) -> io::Result<()> {
     }
     println!(rt;
         "in the order of the places: responses {}, arrivals {}",
-        yes_or_no(rises(entries, tick, |entry| entry.response)),
-        yes_or_no(rises(entries, tick, |entry| entry.collected))
+        yes_or_no(responses_rise(entries, tick)),
+        yes_or_no(arrivals_rise(entries, tick))
     )
 }
 

@@ -7,7 +7,7 @@ pub fn print(rt: &impl Print, events: &[Event]) -> io::Result<()> {
     println!(rt;
         "\nThe record: each call, and its answer\n\ncall  moment  what     member  arguments                answer"
     )?;
-    for (number, event) in (1..).zip(events) {
+    for (number, event) in (1usize..).zip(events) {
         print!(rt; "{number:>4} ")?;
         print_call(rt, event)?;
         print_answer(rt, event)?;

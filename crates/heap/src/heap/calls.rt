@@ -23,6 +23,7 @@ impl<T: Ranked> Heap<T> {
     pub fn len(&self) -> usize
         ensures value { result ≡ length self.now.items }
         ensures within { length self.now.items ≤ self.now.bound }
+        ensures room { self.now.bound ≤ self.now.reserved }
         ensures ordered { Heaped (Upto T.key T.upto) self.now.items }
     {
         self.items.len()

@@ -2,6 +2,7 @@ use Rattle.std.proofs.Common.{rules}
 use Rattle.std.proofs.lemmas.Bool.{leb-false, lt-leb}
 use Rattle.book.specs.Quote.{resting_buys, resting_sells}
 use Rattle.book.proofs.Fairness.{fair}
+use Rattle.book.proofs.Few.{few_here, few_there}
 use Rattle.book.proofs.Kept.{clear_kept, numbered_here, numbered_there}
 use Rattle.book.proofs.Laws.{lawful_buys, lawful_sells}
 use Rattle.book.proofs.Only.{settled}
@@ -15,6 +16,8 @@ invariant_of-self c =
     let e = c.deal.ensures in
     let d = e.dealt.2 in
     record {
+      buys_few = few_here resting_sells resting_buys _ _ _ _ _ _ _ _ _ d b.buys_few;
+      sells_few = few_there resting_sells resting_buys _ _ _ _ _ _ _ _ _ d b.sells_few;
       apart = λ x y i j. leb-false _ _ (clear_kept resting_sells resting_buys lawful_sells lawful_buys _ _ _ _ _ _ _ _ _ _ d (λ y x j i. lt-leb _ _ (b.apart x y i j)) y x j i);
       buys_numbered = numbered_here resting_sells resting_buys lawful_sells lawful_buys _ b.taken _ _ _ _ _ _ _ _ _ _ is.0 is.1 d b.buys_numbered;
       sells_numbered = numbered_there resting_sells resting_buys lawful_sells lawful_buys _ b.taken _ _ _ _ _ _ _ _ _ _ is.0 is.1 d b.sells_numbered;
@@ -27,6 +30,8 @@ invariant_of-self-in-Sell c =
     let e = c.deal-in-Sell.ensures in
     let d = e.dealt.2 in
     record {
+      buys_few = few_there resting_buys resting_sells _ _ _ _ _ _ _ _ _ d b.buys_few;
+      sells_few = few_here resting_buys resting_sells _ _ _ _ _ _ _ _ _ d b.sells_few;
       apart = λ x y i j. leb-false _ _ (clear_kept resting_buys resting_sells lawful_buys lawful_sells _ _ _ _ _ _ _ _ _ _ d (λ x y i j. lt-leb _ _ (b.apart x y i j)) x y i j);
       buys_numbered = numbered_there resting_buys resting_sells lawful_buys lawful_sells _ b.taken _ _ _ _ _ _ _ _ _ _ is.0 is.1 d b.buys_numbered;
       sells_numbered = numbered_here resting_buys resting_sells lawful_buys lawful_sells _ b.taken _ _ _ _ _ _ _ _ _ _ is.0 is.1 d b.sells_numbered;

@@ -28,5 +28,5 @@ returns g c =
       first = first;
       crosses = first_crosses k laws.lawful _ x xs others took.2 first (sym crossed ∙ c.if-not-crossed.false);
       line = c.fill_of.ensures ∙ ap (fill_of c.args.order.now left) is;
-      rest = subst (λ (z : Resting). IsPermutation (left_over k left z ++ others) c.put_back.new.self) is back;
+      rest = subst (λ (z : Resting). IsPermutation (left_over k left z ++ others) c.put_back.new.self.items) is back;
     })

@@ -5,7 +5,7 @@ use Rattle.book.proofs.side.Quotes.meet.Given as goal
 
 abbrev pub invariant-loop-left : goal.invariant-loop-left
 invariant-loop-left g l =
-    Meeting g.S.Quote.kind l.order l.initial.self (page l.initial.fills) l.self (page l.fills) l.left
+    Meeting g.S.Quote.kind l.order l.initial.self.items (page l.initial.fills) l.self.items (page l.fills) l.left
     × (l.fills.lines.ghost_name ≡ l.initial.fills.lines.ghost_name)
 
 abbrev pub decreases-loop-left : goal.decreases-loop-left

@@ -38,4 +38,4 @@ returns g c =
     let e = refilled_is w.len ws (drop (length ws) w.items) (omega arith) in
     let same = ap (λ h. length h.items) c.self.view_is in
     let bound = ap (λ h. h.bound) c.self.view_is in
-    rw (← c.self.view_is) (omega (arith, tests), added v.items s ws _ c.args.x is c.sift_up.ensures.shuffled e, refl)
+    rw (← c.self.view_is) (omega (arith, tests), added v.items s ws _ c.args.x is c.sift_up.ensures.shuffled e, refl, c.append-at.ensures.capacity)

@@ -44,4 +44,4 @@ returns g c =
     let e : zs ≡ ws = refilled_is w.len ws (drop (length ws) w.items) (omega arith) in
     let all : IsPermutation xs (x ∷ zs) = taken xs s ws zs x (omega arith) took.value (is ∙ took.items) c.sift_down.ensures.shuffled e in
     let within = c.self.invariant.within in
-    rw (← c.self.view_is) (took.value, first_left R xs zs x (root_first R (itself r.key r.upto o) (chain r.key r.upto o) xs x took.value c.self.invariant.ordered) all, all, omega (arith, ap length e), refl)
+    rw (← c.self.view_is) (took.value, first_left R xs zs x (root_first R (itself r.key r.upto o) (chain r.key r.upto o) xs x took.value c.self.invariant.ordered) all, all, omega (arith, ap length e), refl, took.capacity)
