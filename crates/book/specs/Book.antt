@@ -10,7 +10,7 @@ use Rattle.book.specs.Quote.{Kind}
 abbrev pub room : ℕ
 room = 256
 
--- and never more
+-- no side holds more than that
 abbrev pub Few : {X : Type 0} → List X → Type 0
 Few xs = length xs ≤ room
 

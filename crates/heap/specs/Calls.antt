@@ -12,15 +12,15 @@ abbrev pub Peeks : {X : Type 0} → (X → X → Type 0) → List X → Option (
 Peeks R xs r = MatchOption r (xs ≡ []) (λ x. (0 < length xs) × AtRoot x.now xs × First R x.now xs)
 
 -- an add below the bound leaves the elements before and this one, each as often as before; at the bound it hands the
--- element back and changes nothing. Neither wants memory
+-- element back and changes nothing. Either way there is memory for as many as before
 abbrev pub Adds : {X U : Type 0} → Contents X → X → Result U X → Contents X → Type 0
 Adds h x r h' = MatchResult r
     (λ _. (length h.items < h.bound) × IsPermutation (x ∷ h.items) h'.items × (h'.bound ≡ h.bound) × (h'.reserved ≡ h.reserved))
     (λ y. (y ≡ x) × (h.bound ≤ length h.items) × (h' ≡ h))
 
 -- a take hands out the element at the root, before which none of the others comes, and leaves the others, each as often
--- as before, and room for one more; which one among equal keys is free. Of an empty heap it answers nothing and changes
--- nothing
+-- as before, room for one more, and memory for as many as before; which one among equal keys is free. Of an empty heap it
+-- answers nothing and changes nothing
 abbrev pub Takes : {X : Type 0} → (X → X → Type 0) → Contents X → Option X → Contents X → Type 0
 Takes R h r h' = MatchOption r
     ((h.items ≡ []) × (h' ≡ h))

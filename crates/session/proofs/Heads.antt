@@ -1,4 +1,5 @@
--- The trade at the root of the buffer is the first, which a release takes.
+-- The trade at the root of the buffer is the first, which a release takes. No call's proof cites these two any more; they
+-- stand for whoever proves something of a buffer.
 use Rattle.std.proofs.Common.{◌≡◌, ◌<◌, List, [], ◌∷◌, length, IfSome, MatchOption, Some, None, Option, ap, sym, ◌∙◌, subst, arith}
 use Rattle.std.specs.List.Sorted.{IsPermutation}
 use Rattle.heap.specs.Heaps.{AtRoot, First}
