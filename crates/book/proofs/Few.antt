@@ -1,5 +1,5 @@
 -- No side passes its room: the other side gets no order, and the order's own side gets one only where there is room.
-use Rattle.std.proofs.Common.{◌≡◌, ℕ, ◌-◌, ◌≤◌, Bool, true, not, ltb, List, [], ◌∷◌, ◌++◌, length, ap, ⊎_elim, arith, length-append}
+use Rattle.std.proofs.Common.{◌≡◌, ℕ, ◌-◌, ◌≤◌, Bool, true, not, ltb, List, [], ◌∷◌, ◌++◌, length, ap, ◌∙◌, ⊎_elim, arith, length-append}
 use Rattle.std.proofs.lemmas.List.Sorted.{length_permutation}
 use Rattle.std.proofs.lemmas.Bool.{and_parts, cases_Bool, cond_both}
 use Rattle.std.proofs.lemmas.Bool.Decides.{nat_tests, when_false, when_true}
@@ -10,7 +10,12 @@ use Rattle.book.specs.Order.{at_rest}
 use Rattle.book.specs.Quote.{Kind}
 use Rattle.book.specs.Side.{any_crosses, left_over}
 use Rattle.book.specs.Matching.{Dealt, remains, rests}
-use Rattle.book.specs.Book.{Few, room}
+use Rattle.heap.specs.Contents.{Contents}
+use Rattle.book.specs.Book.{Few, Roomy, room}
+
+-- a side that may hold as many, and has memory for as many, has room as before
+pub still_roomy : {X : Type 0} (h h' : Contents X) → h'.bound ≡ h.bound → h'.reserved ≡ h.reserved → Roomy h → Roomy h'
+still_roomy h h' bound reserved had = (bound ∙ had.0, omega arith)
 
 -- of those met no more rest than were met
 remain_few : {X : Type 0} (k : Kind X) (q : ℕ) (met : List X) → length (remains k q met) ≤ length met

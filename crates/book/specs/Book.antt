@@ -1,7 +1,8 @@
--- What always holds of the two sides of a book: neither is too long, no buy crosses a sell, and arrival numbers tell the
--- orders of a side apart.
-use Rattle.std.specs.Prelude.{ℕ, ◌<◌, ◌≤◌, if◌then◌else◌, List, length, count_by, nat_eq, nat_lt}
+-- What always holds of the two sides of a book: each has room and is not too long, no buy crosses a sell, and arrival numbers
+-- tell the orders of a side apart.
+use Rattle.std.specs.Prelude.{◌≡◌, ℕ, ◌<◌, ◌≤◌, if◌then◌else◌, List, length, count_by, nat_eq, nat_lt}
 use Rattle.std.specs.List.{ContainsAt}
+use Rattle.heap.specs.Contents.{Contents}
 use Rattle.book.specs.declared.quote.Buy.{Buy}
 use Rattle.book.specs.declared.quote.Sell.{Sell}
 use Rattle.book.specs.Quote.{Kind}
@@ -9,6 +10,10 @@ use Rattle.book.specs.Quote.{Kind}
 -- a side holds so many orders at most
 abbrev pub room : ℕ
 room = 256
+
+-- a side may hold so many, and there is memory for them
+abbrev pub Roomy : {X : Type 0} → Contents X → Type 0
+Roomy h = (h.bound ≡ room) × (room ≤ h.reserved)
 
 -- no side holds more than that
 abbrev pub Few : {X : Type 0} → List X → Type 0

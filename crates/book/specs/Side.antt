@@ -3,12 +3,22 @@
 use Rattle.std.specs.Prelude.{◌≡◌, ℕ, ◌+◌, Bool, true, false, if◌then◌else◌, List, [], ◌∷◌, ◌++◌, Option, MatchOption, nat_lt}
 use Rattle.std.specs.List.Sorted.{IsPermutation}
 use Rattle.std.specs.List.{AllByRecursion, ContainsAt}
+use Rattle.heap.specs.Contents.{Contents}
+use Rattle.heap.specs.Heaps.{Heaped, Upto}
 use Rattle.book.specs.declared.order.Order.{Order}
 use Rattle.book.specs.declared.order.Resting.{Resting}
 use Rattle.book.specs.declared.fill.Fill.{Fill}
 use Rattle.book.specs.Order.{less}
 use Rattle.book.specs.Fill.{fill_of}
 use Rattle.book.specs.Quote.{Kind}
+
+-- what a side's heap holds stands by rank
+abbrev pub Stood : {X K : Type 0} → (X → K) → (K → K → Bool) → List X → Type 0
+Stood key upto xs = Heaped (Upto key upto) xs
+
+-- what each call keeps of a side: it stands by rank where it did, may hold as many, and has memory for as many
+abbrev pub Keeps : {X K : Type 0} → (X → K) → (K → K → Bool) → Contents X → Contents X → Type 0
+Keeps key upto h h' = (Stood key upto h.items → Stood key upto h'.items) × (h'.bound ≡ h.bound) × (h'.reserved ≡ h.reserved)
 
 module _ {X : Type 0} (k : Kind X) where
   -- the first ranks before the second, or they rank alike

@@ -3,6 +3,7 @@ ghost use Rattle.std.specs.Prelude.{◌≡◌};
 ghost use Rattle.lines.specs.Pages.{page, full};
 ghost use Rattle.book.specs.Book.{room};
 ghost use Rattle.book.specs.Matching.{Deals, Longest, Meeting, Rests};
+ghost use Rattle.book.specs.Side.{Keeps};
 
 use crate::fill::Fill;
 use crate::order::{Booked, Order};
@@ -16,6 +17,7 @@ impl<S: Quote + Drop> Quotes<S> {
     fn meet(&mut self, order: &Order, fills: &mut Lines<Fill>) -> u32
         ensures matched { Meeting S.Quote.kind order.now self.old.items (page fills.old) self.new.items (page fills.new) result }
         ensures longest { Longest S.Quote.kind order.now (full (page fills.new)) self.new.items result }
+        ensures kept { Keeps S.Ranked.key S.Ranked.upto self.old self.new }
         ensures same { fills.new.lines.ghost_name ≡ fills.old.lines.ghost_name }
     {
         let mut left = order.quantity;
@@ -39,7 +41,8 @@ impl<S: Quote + Drop> Quotes<S> {
         left: u32,
         arrival: u32,
     ) -> u32
-        ensures { Rests O.Quote.kind S.Quote.kind order.now arrival left room opposite.now.items self.old.items self.new.items result }
+        ensures rested { Rests O.Quote.kind S.Quote.kind order.now arrival left room opposite.now.items self.old.items self.new.items result }
+        ensures kept { Keeps S.Ranked.key S.Ranked.upto self.old self.new }
     {
         if left == 0 || opposite.crossed(order.price) {
             return 0;
@@ -60,6 +63,8 @@ pub(crate) fn deal<O: Quote + Drop, W: Quote + Drop>(
     fills: &mut Lines<Fill>,
 ) -> Booked
     ensures dealt { Deals O.Quote.kind W.Quote.kind order.now arrival room opposite.old.items opposite.new.items own.old.items own.new.items (page fills.old) (page fills.new) result }
+    ensures there { Keeps O.Ranked.key O.Ranked.upto opposite.old opposite.new }
+    ensures here { Keeps W.Ranked.key W.Ranked.upto own.old own.new }
     ensures same { fills.new.lines.ghost_name ≡ fills.old.lines.ghost_name }
 {
     let before = fills.used();

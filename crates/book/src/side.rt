@@ -2,8 +2,8 @@
 ghost use Rattle.std.specs.Prelude.{◌≡◌, ◌<◌, [], ◌++◌, length, IfOk};
 ghost use Rattle.std.specs.List.Sorted.{IsPermutation};
 ghost use Rattle.heap.specs.Calls.{Adds};
-ghost use Rattle.book.specs.Book.{room};
-ghost use Rattle.book.specs.Side.{Best, MeetsBest, any_crosses, left_over};
+ghost use Rattle.book.specs.Book.{Roomy, room};
+ghost use Rattle.book.specs.Side.{Best, Keeps, MeetsBest, Stood, any_crosses, left_over};
 
 use crate::fill::{Fill, fill_of};
 use crate::order::{Order, Resting};
@@ -21,23 +21,25 @@ pub(crate) struct Quotes<S: Quote> {
     heap: Heap<S>,
 }
 
-// Contracts see what the heap holds, the first quote at the front. There is always room for so many as a side may hold.
+// Contracts see what the heap holds, the first quote at the front. There is always room for so many as a side may hold, and
+// they stand by rank.
 impl<S: Quote> Model for Quotes<S> {
     ghost use Rattle.std.specs.Prelude.{◌≡◌};
     ghost use Rattle.heap.specs.Contents.{Contents};
     ghost use Rattle.book.specs.Book.{room};
+    ghost use Rattle.book.specs.Side.{Stood};
 
     ghost Value = { Contents S };
 
     ghost view = { λ q. q.heap };
 
-    ghost invariant = { λ q. q.heap.bound ≡ room };
+    ghost invariant = { λ q. (q.heap.bound ≡ room) × Stood S.Ranked.key S.Ranked.upto q.heap.items };
 }
 
 impl<S: Quote> Quotes<S> {
     // A side on which nothing rests, with all the memory that it will ever need.
     pub(crate) fn new(heap: Global) -> Result<Quotes<S>, AllocError>
-        ensures { IfOk result (λ q. q.items ≡ []) }
+        ensures { IfOk result (λ q. (q.items ≡ []) × Roomy q × Stood S.Ranked.key S.Ranked.upto q.items) }
     {
         let heap = Heap::with_room(heap, ROOM)?;
         Ok(Quotes { heap })
@@ -66,6 +68,7 @@ impl<S: Quote + Drop> Quotes<S> {
     pub(crate) fn add(&mut self, quote: S) -> Result<(), S>
         ensures added { Adds self.old quote result self.new }
         ensures room { self.old.bound ≡ room }
+        ensures kept { Keeps S.Ranked.key S.Ranked.upto self.old self.new }
     {
         self.heap.add(quote)
     }
@@ -73,7 +76,8 @@ impl<S: Quote + Drop> Quotes<S> {
     // Puts back what is left of a resting order once `taken` of it is gone.
     fn put_back(&mut self, resting: Resting, taken: u32)
         requires { length self.old.items < room }
-        ensures { IsPermutation (left_over S.Quote.kind taken resting ++ self.old.items) self.new.items }
+        ensures items { IsPermutation (left_over S.Quote.kind taken resting ++ self.old.items) self.new.items }
+        ensures kept { Keeps S.Ranked.key S.Ranked.upto self.old self.new }
     {
         if taken < resting.quantity {
             let _ = self.add(S::quote(resting.less(taken)));
@@ -82,7 +86,8 @@ impl<S: Quote + Drop> Quotes<S> {
 
     // Meets the first order where it crosses; what is left of that one rests again.
     pub(crate) fn fill_first(&mut self, order: &Order, left: u32) -> Option<Fill>
-        ensures { MeetsBest S.Quote.kind order.now left self.old.items result self.new.items }
+        ensures fill { MeetsBest S.Quote.kind order.now left self.old.items result self.new.items }
+        ensures kept { Keeps S.Ranked.key S.Ranked.upto self.old self.new }
     {
         if !self.crossed(order.price) {
             return None;

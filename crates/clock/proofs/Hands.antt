@@ -4,7 +4,9 @@ use Rattle.std.proofs.Math.Path.{fun_ext}
 use Rattle.std.proofs.Math.Seq.{map-set_same}
 use Rattle.std.proofs.lemmas.List.{map-set}
 use Rattle.std.proofs.lemmas.Grind.{common_steps}
-use Rattle.clock.specs.StopClock.{unmarked}
+use Rattle.clock.specs.declared.hand.Hand.{Hand}
+use Rattle.clock.specs.Hands.{hand_moment, moments}
+use Rattle.clock.specs.StopClock.{limit, unmarked}
 
 module _ {A : Type 0} (f : A → ℕ) where
   -- a list is mapped to the list of its items' values
@@ -20,6 +22,12 @@ module _ {A : Type 0} (f : A → ℕ) where
   none_from_each (x ∷ xs) each zero = each 0 x (omega arith)
   none_from_each (x ∷ xs) each (suc k) = none_from_each xs (λ i d below. each (suc i) d (omega (arith, below))) k
 
+  -- where each item's value is below a number, so is what is read at any place
+  below_from_each : (n : ℕ) → 0 < n → ((x : A) → f x < n) → (xs : List A) (k : ℕ) → slice_index (map f xs) k < n
+  below_from_each n some each [] k = some
+  below_from_each n some each (x ∷ xs) zero = each x
+  below_from_each n some each (x ∷ xs) (suc k) = below_from_each n some each xs k
+
   pub unmarked_from_each : (xs : List A) → ((i : ℕ) (d : A) → i < length xs → f (get_or xs i d) ≡ 0) → (λ k. slice_index (map f xs) k) ≡ unmarked
   unmarked_from_each xs each = fun_ext (none_from_each xs each)
 
@@ -30,3 +38,7 @@ read_after_set f xs seat x k below = simp map-set (grind (arith, common_steps))
 -- an item with the old one's value changes no value
 pub same_after_set : {A : Type 0} (f : A → ℕ) (xs : List A) (seat : ℕ) (x old : A) → old ≡ get_or xs seat old → f x ≡ f old → map f (set xs seat x) ≡ map f xs
 same_after_set f xs seat x old was same = map-set_same f xs seat x old (same ∙ ap f was)
+
+-- every seat's mark is at a moment that there is
+pub moments_early : {R : Type 0} {g : _} (hands : List (Hand R g)) (k : ℕ) → moments hands k < limit
+moments_early hands k = below_from_each hand_moment limit (omega arith) (λ h. h.early) hands k

@@ -52,6 +52,6 @@ module _ {X : Type 0} (R : X → X → Type 0) where
   first_left xs zs x h s = (every_shuffled (R x) xs (x ∷ zs) s h).1
 
   -- what was found at the root is what a peek answers
-  pub peeked : (refl' : (x : X) → R x x) (trans : (x y z : X) → R x y → R y z → R x z) (xs : List X) (r : Option (Bor X)) → Heaped R xs → IsGetResult xs 0 0 r → Peeks R xs r
-  peeked refl' trans xs None h i = none_left xs i.3
-  peeked refl' trans xs (Some x) h i = (i.3.0, i.1, root_first R refl' trans xs x.now i.1 h)
+  pub peeked : (refl' : (x : X) → R x x) (trans : (x y z : X) → R x y → R y z → R x z) (xs : List X) (r : Option (Bor X)) → IsGetResult xs 0 0 r → Peeks R xs r
+  peeked refl' trans xs None i = none_left xs i.3
+  peeked refl' trans xs (Some x) i = (i.3.0, i.1, root_first R refl' trans xs x.now i.1)

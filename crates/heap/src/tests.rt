@@ -1,4 +1,4 @@
-ghost use Rattle.std.specs.Prelude.{nat_le};
+ghost use Rattle.std.specs.Prelude.{◌≡◌, length, nat_le};
 ghost use Rattle.std.proofs.Common.{rules};
 
 use crate::{Heap, Ranked};
@@ -28,6 +28,20 @@ impl Ranked for Job {
 
     fn precedes(&self, other: &Job) -> bool {
         self.urgency <= other.urgency
+    }
+}
+
+// What holds a heap, and who counts in it, need not say that its elements are ranked.
+#[derive(Drop)]
+struct Shelf<T> {
+    heap: Heap<T>,
+}
+
+impl<T> Shelf<T> {
+    fn count(&self) -> usize
+        ensures { result ≡ length self.now.heap.items }
+    {
+        self.heap.len()
     }
 }
 
@@ -91,5 +105,13 @@ fn an_empty_heap_has_nothing(rt: HostRuntime) -> Result<(), Fail> {
     assert_eq!(rt; jobs.len(), 0);
     assert!(rt; jobs.peek().is_none());
     assert_eq!(rt; jobs.take(), None);
+    Ok(())
+}
+
+#[test]
+fn a_holder_names_no_rank(rt: HostRuntime) -> Result<(), Fail> {
+    let heap = full_of(&rt, rt.alloc(), &[2, 4])?;
+    let shelf = Shelf { heap };
+    assert_eq!(rt; shelf.count(), 2);
     Ok(())
 }

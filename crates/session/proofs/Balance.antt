@@ -236,3 +236,11 @@ buffer_fits seats buffer k lt due b =
     let own = before_some (length seats) k lt in
     let sum = of_first_few k buffer (length seats) (λ j in'. let t = b.tallied j in' in grind (arith, nat_tests)) in
     omega arith
+
+-- the buffer never holds more than it has room for
+pub balanced_room : (seats : List Seat) (buffer : List Trade) → Balanced seats buffer → length buffer ≤ buffer_room
+balanced_room seats buffer b =
+    let few = b.few in
+    let all = of_first_all (length seats) buffer b.known in
+    let sum = of_first_few (length seats) buffer (length seats) (λ j in'. let t = b.tallied j in' in grind (arith, nat_tests)) in
+    omega arith

@@ -1,5 +1,6 @@
 // The buffer of trades that are collected and not released.
 ghost use Rattle.std.specs.Prelude.{◌≡◌, ◌<◌, [], length, IfOk, MatchOption};
+ghost use Rattle.heap.specs.Calls.{KeepsOrder};
 ghost use Rattle.heap.specs.Heaps.{AtRoot, First};
 ghost use Rattle.records.specs.Trade.{TradeUpto};
 ghost use Rattle.session.specs.Balance.{buffer_room};
@@ -22,17 +23,20 @@ pub struct Buffer {
     heap: Heap<Trade>,
 }
 
-// Contracts see the trades, the first of them at the front. There is always room for so many as the seats may have there.
+// Contracts see the trades, the first of them at the front. There is always room for so many as the seats may have there,
+// and they stand by rank.
 impl Model for Buffer {
     ghost use Rattle.std.specs.Prelude.{◌≡◌, List};
+    ghost use Rattle.heap.specs.Heaps.{Heaped};
     ghost use Rattle.records.specs.declared.trade.Trade.{Trade};
+    ghost use Rattle.records.specs.Trade.{TradeUpto};
     ghost use Rattle.session.specs.Balance.{buffer_room};
 
     ghost Value = { List Trade };
 
     ghost view = { λ b. b.heap.items };
 
-    ghost invariant = { λ b. b.heap.bound ≡ buffer_room };
+    ghost invariant = { λ b. (b.heap.bound ≡ buffer_room) × Heaped TradeUpto b.heap.items };
 }
 
 impl Buffer {
@@ -61,7 +65,8 @@ impl Buffer {
     // Puts a collected trade in, unless it is stray, and answers how many of the seat are collected by now.
     pub fn put(&mut self, seat: usize, own: &Seat, message: &Message) -> u32
         requires { own.now.collected < own.now.submitted → length self.old < buffer_room }
-        ensures { Put own.now seat message.now result self.old self.new }
+        ensures put { Put own.now seat message.now result self.old self.new }
+        ensures ranked { KeepsOrder TradeUpto self.old self.new }
     {
         match *message {
             Message::Trade(trade) if own.expects(seat, &trade) => {
@@ -75,7 +80,8 @@ impl Buffer {
     // Takes the first trade out.
     pub fn take(&mut self, head: Trade)
         requires { (0 < length self.old) × AtRoot head self.old }
-        ensures { Head self.old head self.new }
+        ensures taken { Head self.old head self.new }
+        ensures ranked { KeepsOrder TradeUpto self.old self.new }
     {
         let _ = self.heap.take();
     }

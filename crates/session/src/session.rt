@@ -1,5 +1,7 @@
 ghost use Rattle.std.specs.Prelude.{◌≡◌, ◌+◌, ◌≤◌, length};
-ghost use Rattle.session.specs.Balance.{FewPending, FewTrades, SentFirst, Tallied};
+ghost use Rattle.heap.specs.Heaps.{Heaped};
+ghost use Rattle.records.specs.Trade.{TradeUpto};
+ghost use Rattle.session.specs.Balance.{FewPending, FewTrades, SentFirst, Tallied, buffer_room};
 ghost use Rattle.session.specs.Opening.{most_seats};
 ghost use Rattle.session.specs.Point.{points_room};
 
@@ -26,6 +28,10 @@ pub struct Session {
     ghost sent: { SentFirst state.seats.items },
     ghost pending: { FewPending state.seats.items },
     ghost trades: { FewTrades state.seats.items },
+    // The buffer never holds more than it has room for.
+    ghost room: { length state.buffer ≤ buffer_room },
+    // The buffer stands by rank.
+    ghost ranked: { Heaped TradeUpto state.buffer },
     // Each batch has a point at least.
     ghost points: { state.market.points ≤ points_room },
     ghost counted: { state.market.batches + state.market.unsealed ≤ state.market.points },

@@ -1,8 +1,8 @@
 ghost use Rattle.std.specs.Prelude.{◌≡◌, ℕ, ◌+◌, ◌<◌, ◌≤◌, [], ◌∷◌, ◌++◌, length, IfOk, vec_len, vec_capacity, ◌==◌, ◌≢◌, nat_le, slice_index_or};
 ghost use Rattle.std.specs.List.{swap_remove};
 ghost use Rattle.std.specs.Slice.{IsGetResult};
-ghost use Rattle.heap.specs.Calls.{Adds, Peeks, Takes};
-ghost use Rattle.heap.specs.Heaps.{Heaped, Upto};
+ghost use Rattle.heap.specs.Calls.{Adds, Fresh, KeepsOrder, Peeks, Takes};
+ghost use Rattle.heap.specs.Heaps.{Upto};
 
 use super::Heap;
 use super::places::ROOT;
@@ -10,21 +10,12 @@ use super::sift::{sift_down, sift_up};
 use crate::ranked::Ranked;
 use std::alloc::{AllocError, Global};
 
-impl<T: Ranked> Heap<T> {
-    // An empty heap with room for `limit` elements.
-    pub fn with_room(heap: Global, limit: usize) -> Result<Heap<T>, AllocError>
-        ensures { IfOk result (λ h. (h.items ≡ []) × (h.bound ≡ limit)) }
-    {
-        let items = Vec::with_capacity(heap, limit)?;
-        Ok(Heap { items, limit })
-    }
-
+impl<T> Heap<T> {
     // How many elements the heap holds. What always holds of a heap is told here too.
     pub fn len(&self) -> usize
         ensures value { result ≡ length self.now.items }
         ensures within { length self.now.items ≤ self.now.bound }
         ensures room { self.now.bound ≤ self.now.reserved }
-        ensures ordered { Heaped (Upto T.key T.upto) self.now.items }
     {
         self.items.len()
     }
@@ -42,6 +33,16 @@ impl<T: Ranked> Heap<T> {
     {
         self.limit <= self.len()
     }
+}
+
+impl<T: Ranked> Heap<T> {
+    // An empty heap with room for `limit` elements.
+    pub fn with_room(heap: Global, limit: usize) -> Result<Heap<T>, AllocError>
+        ensures { IfOk result (λ h. Fresh (Upto T.key T.upto) limit h) }
+    {
+        let items = Vec::with_capacity(heap, limit)?;
+        Ok(Heap { items, limit })
+    }
 
     // The element that the next `take` hands out.
     pub fn peek(&self) -> Option<&T>
@@ -52,7 +53,8 @@ impl<T: Ranked> Heap<T> {
 
     // Takes an element in, or hands it back where the heap holds as many as it may.
     pub fn add(&mut self, x: T) -> Result<(), T>
-        ensures { Adds self.old x result self.new }
+        ensures added { Adds self.old x result self.new }
+        ensures heaped { KeepsOrder (Upto T.key T.upto) self.old.items self.new.items }
     {
         if self.is_full() {
             return Err(x);
@@ -64,7 +66,8 @@ impl<T: Ranked> Heap<T> {
 
     // Hands out an element that no other precedes, and keeps the others. Among equal keys any may come first.
     pub fn take(&mut self) -> Option<T>
-        ensures { Takes (Upto T.key T.upto) self.old result self.new }
+        ensures taken { Takes (Upto T.key T.upto) self.old result self.new }
+        ensures heaped { KeepsOrder (Upto T.key T.upto) self.old.items self.new.items }
     {
         if self.is_empty() {
             return None;

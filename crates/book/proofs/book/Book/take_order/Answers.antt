@@ -2,7 +2,7 @@ use Rattle.std.proofs.Common.{rules}
 use Rattle.std.proofs.lemmas.Bool.{leb-false, lt-leb}
 use Rattle.book.specs.Quote.{resting_buys, resting_sells}
 use Rattle.book.proofs.Fairness.{fair}
-use Rattle.book.proofs.Few.{few_here, few_there}
+use Rattle.book.proofs.Few.{few_here, few_there, still_roomy}
 use Rattle.book.proofs.Kept.{clear_kept, numbered_here, numbered_there}
 use Rattle.book.proofs.Laws.{lawful_buys, lawful_sells}
 use Rattle.book.proofs.Only.{settled}
@@ -16,6 +16,10 @@ invariant_of-self c =
     let e = c.deal.ensures in
     let d = e.dealt.2 in
     record {
+      buys_stand = e.here.0 b.buys_stand;
+      sells_stand = e.there.0 b.sells_stand;
+      buys_room = still_roomy b.buys c.deal.new.own e.here.1 e.here.2 b.buys_room;
+      sells_room = still_roomy b.sells c.deal.new.opposite e.there.1 e.there.2 b.sells_room;
       buys_few = few_here resting_sells resting_buys _ _ _ _ _ _ _ _ _ d b.buys_few;
       sells_few = few_there resting_sells resting_buys _ _ _ _ _ _ _ _ _ d b.sells_few;
       apart = λ x y i j. leb-false _ _ (clear_kept resting_sells resting_buys lawful_sells lawful_buys _ _ _ _ _ _ _ _ _ _ d (λ y x j i. lt-leb _ _ (b.apart x y i j)) y x j i);
@@ -30,6 +34,10 @@ invariant_of-self-in-Sell c =
     let e = c.deal-in-Sell.ensures in
     let d = e.dealt.2 in
     record {
+      buys_stand = e.there.0 b.buys_stand;
+      sells_stand = e.here.0 b.sells_stand;
+      buys_room = still_roomy b.buys c.deal-in-Sell.new.opposite e.there.1 e.there.2 b.buys_room;
+      sells_room = still_roomy b.sells c.deal-in-Sell.new.own e.here.1 e.here.2 b.sells_room;
       buys_few = few_there resting_buys resting_sells _ _ _ _ _ _ _ _ _ d b.buys_few;
       sells_few = few_here resting_buys resting_sells _ _ _ _ _ _ _ _ _ d b.sells_few;
       apart = λ x y i j. leb-false _ _ (clear_kept resting_buys resting_sells lawful_buys lawful_sells _ _ _ _ _ _ _ _ _ _ d (λ x y i j. lt-leb _ _ (b.apart x y i j)) x y i j);

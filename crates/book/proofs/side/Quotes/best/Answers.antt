@@ -14,5 +14,5 @@ returns g c =
     let seen = c.in_ok-peek.ensures in
     let x = c.in_ok-peek.field-0.now in
     let is : k.quoted c.order.result ≡ x = ap k.quoted c.order.ensures ∙ laws.lawful.whole x in
-    let first : AllByRecursion (Before k x) xs = ranked_first r.key r.upto k laws.ranks x xs seen.2 in
+    let first : AllByRecursion (Before k x) xs = ranked_first r.key r.upto k laws.ranks x xs (seen.2 c.self.invariant.1) in
     rw (← c.self.view_is) (root_has xs x (k.quoted c.order.result) seen.0 seen.1 is, subst (λ y. AllByRecursion (Before k y) xs) (sym is) first)

@@ -10,4 +10,4 @@ returns-in-Some g c =
     let xs = c.self.inside.heap.items in
     let seen = c.in-Some.ensures in
     let x = c.in-Some.first.now in
-    rw (← c.self.view_is) (c.crosses.ensures ∙ first_decides k laws.lawful c.args.price x xs seen.0 seen.1 (ranked_first r.key r.upto k laws.ranks x xs seen.2))
+    rw (← c.self.view_is) (c.crosses.ensures ∙ first_decides k laws.lawful c.args.price x xs seen.0 seen.1 (ranked_first r.key r.upto k laws.ranks x xs (seen.2 c.self.invariant.1)))

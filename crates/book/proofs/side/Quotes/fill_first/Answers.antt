@@ -19,14 +19,17 @@ returns g c =
     let is = c.order-resting.ensures in
     let back = c.put_back.ensures in
     let xs = c.self.inside.heap.items in
-    let first : AllByRecursion (Before k x) others = ranked_first r.key r.upto k laws.ranks x others took.1 in
+    let first : AllByRecursion (Before k x) others = ranked_first r.key r.upto k laws.ranks x others (took.taken.1 c.self.invariant.1) in
     let crossed = rw (← c.self.view_is) at c.crossed.ensures in
     rw (← c.self.view_is) (record {
-      best = x;
-      others = others;
-      all = took.2;
-      first = first;
-      crosses = first_crosses k laws.lawful _ x xs others took.2 first (sym crossed ∙ c.if-not-crossed.false);
-      line = c.fill_of.ensures ∙ ap (fill_of c.args.order.now left) is;
-      rest = subst (λ (z : Resting). IsPermutation (left_over k left z ++ others) c.put_back.new.self.items) is back;
+      fill = record {
+        best = x;
+        others = others;
+        all = took.taken.2;
+        first = first;
+        crosses = first_crosses k laws.lawful _ x xs others took.taken.2 first (sym crossed ∙ c.if-not-crossed.false);
+        line = c.fill_of.ensures ∙ ap (fill_of c.args.order.now left) is;
+        rest = subst (λ (z : Resting). IsPermutation (left_over k left z ++ others) c.put_back.new.self.items) is back.items;
+      };
+      kept = (λ h. back.kept.0 (took.heaped h), back.kept.1 ∙ took.taken.4, back.kept.2 ∙ took.taken.5);
     })

@@ -7,4 +7,4 @@ pub returns : goal.returns
 returns g c =
     let r = g.T.Ranked in
     let o = g.met.T.Ranked.lawful in
-    rw (← c.self.view_is) (peeked (Upto r.key r.upto) (itself r.key r.upto o) (chain r.key r.upto o) _ _ c.self.invariant.ordered (rw (← c.as_slice.ensures.value) c.root.ensures))
+    rw (← c.self.view_is) (peeked (Upto r.key r.upto) (itself r.key r.upto o) (chain r.key r.upto o) _ _ (rw (← c.as_slice.ensures.value) c.root.ensures))

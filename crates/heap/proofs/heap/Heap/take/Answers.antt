@@ -8,22 +8,14 @@ use Rattle.heap.proofs.heap.Heap.take.Goals as goal
 
 pub invariant_of-self : goal.invariant_of-self
 invariant_of-self g c =
-    let r = g.T.Ranked in
-    let R = Upto r.key r.upto in
     let v = c.self.inside.items in
     let w = c.uproot-root.new.items in
     let long = v.ok.0 in
     let shorter = w.ok.0 in
     let took = c.uproot-root.ensures in
-    let s = c.as_mut_slice.result.now in
-    let is : s ≡ w.items = c.as_mut_slice.ensures.value in
     let ws = c.sift_down.new.s in
     let e = refilled_is w.len ws (drop (length ws) w.items) (omega arith) in
-    record {
-      room = omega arith;
-      within = omega (arith, ap length e);
-      ordered = subst (Heaped R) (sym e) (c.sift_down.ensures.heaped (uprooted R v.items s (omega arith) (λ k d n lt. ap (λ l. get_or l k d) is ∙ took.others k d n (omega arith)) c.self.invariant.ordered, root_over R s 0 refl));
-    }
+    record { room = omega arith; within = omega (arith, ap length e) }
 
 pub returns : goal.returns
 returns g c =
@@ -44,4 +36,7 @@ returns g c =
     let e : zs ≡ ws = refilled_is w.len ws (drop (length ws) w.items) (omega arith) in
     let all : IsPermutation xs (x ∷ zs) = taken xs s ws zs x (omega arith) took.value (is ∙ took.items) c.sift_down.ensures.shuffled e in
     let within = c.self.invariant.within in
-    rw (← c.self.view_is) (took.value, first_left R xs zs x (root_first R (itself r.key r.upto o) (chain r.key r.upto o) xs x took.value c.self.invariant.ordered) all, all, omega (arith, ap length e), refl, took.capacity)
+    rw (← c.self.view_is) (record {
+      taken = (took.value, λ h. first_left R xs zs x (root_first R (itself r.key r.upto o) (chain r.key r.upto o) xs x took.value h) all, all, omega (arith, ap length e), refl, took.capacity);
+      heaped = λ h. subst (Heaped R) (sym e) (c.sift_down.ensures.heaped (uprooted R xs s (omega arith) (λ k d n lt. ap (λ l. get_or l k d) is ∙ took.others k d n (omega arith)) h, root_over R s 0 refl));
+    })

@@ -2,7 +2,7 @@ use Rattle.std.proofs.Common.{◌<◌, length, get_or, set, vec_items, sym, ap, 
 use Rattle.records.specs.declared.seat.Seat.{Seat}
 use Rattle.records.specs.Seat.{blank, collected_with}
 use Rattle.session.specs.Collect.{Put}
-use Rattle.session.proofs.Balance.{Balanced, in_balance, balanced_pending, balanced_sent, balanced_tallied, balanced_trades, buffer_fits, put_balanced}
+use Rattle.session.proofs.Balance.{Balanced, in_balance, balanced_pending, balanced_room, balanced_sent, balanced_tallied, balanced_trades, buffer_fits, put_balanced}
 use Rattle.session.proofs.session.Session.collect.Goals as goal
 
 pub put-collected-requires : goal.put-collected-requires
@@ -37,6 +37,8 @@ invariant_of-self g c =
       sent = balanced_sent _ _ after;
       pending = balanced_pending _ _ after;
       trades = balanced_trades _ _ after;
+      room = balanced_room _ _ after;
+      ranked = c.put-collected.ensures.ranked s.ranked;
       points = s.points;
       counted = s.counted;
     }

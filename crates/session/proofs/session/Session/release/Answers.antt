@@ -2,7 +2,7 @@ use Rattle.std.proofs.Common.{set, vec_items, sym, refl, ap, ◌∙◌, subst, r
 use Rattle.records.specs.declared.seat.Seat.{Seat}
 use Rattle.records.specs.Seat.{released_once}
 use Rattle.session.specs.Release.{held_up, no_line}
-use Rattle.session.proofs.Balance.{Balanced, in_balance, balanced_pending, balanced_release, balanced_sent, balanced_tallied, balanced_trades, held_known}
+use Rattle.session.proofs.Balance.{Balanced, in_balance, balanced_pending, balanced_release, balanced_room, balanced_sent, balanced_tallied, balanced_trades, held_known}
 use Rattle.heap.proofs.Roots.{root_has}
 use Rattle.session.proofs.session.Session.release.Goals as goal
 
@@ -48,13 +48,15 @@ invariant_of-self c =
     let before = in_balance s in
     let new = c.count_released.ensures ∙ ap released_once c.seat_mut.ensures.value in
     let after : Balanced (set seats k c.count_released.new.self) buffer =
-    subst (λ (y : Seat). Balanced (set seats k y) buffer) (sym new) (balanced_release seats s.state.buffer x buffer taken.all before) in
+    subst (λ (y : Seat). Balanced (set seats k y) buffer) (sym new) (balanced_release seats s.state.buffer x buffer taken.taken.all before) in
     record {
       few = after.few;
       tallied = balanced_tallied _ _ after;
       sent = balanced_sent _ _ after;
       pending = balanced_pending _ _ after;
       trades = balanced_trades _ _ after;
+      room = balanced_room _ _ after;
+      ranked = taken.ranked s.ranked;
       points = s.points;
       counted = s.counted;
     }
