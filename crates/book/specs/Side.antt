@@ -3,6 +3,7 @@
 use Rattle.std.specs.Prelude.{◌≡◌, ℕ, ◌+◌, Bool, true, false, if◌then◌else◌, List, [], ◌∷◌, ◌++◌, Option, MatchOption, nat_lt}
 use Rattle.std.specs.List.Sorted.{IsPermutation}
 use Rattle.std.specs.List.{AllByRecursion, ContainsAt}
+use Rattle.heap.specs.Calls.{KeepsOrder}
 use Rattle.heap.specs.Contents.{Contents}
 use Rattle.heap.specs.Heaps.{Heaped, Upto}
 use Rattle.book.specs.declared.order.Order.{Order}
@@ -18,7 +19,7 @@ Stood key upto xs = Heaped (Upto key upto) xs
 
 -- what each call keeps of a side: it stands by rank where it did, may hold as many, and has memory for as many
 abbrev pub Keeps : {X K : Type 0} → (X → K) → (K → K → Bool) → Contents X → Contents X → Type 0
-Keeps key upto h h' = (Stood key upto h.items → Stood key upto h'.items) × (h'.bound ≡ h.bound) × (h'.reserved ≡ h.reserved)
+Keeps key upto h h' = KeepsOrder (Upto key upto) h.items h'.items × (h'.bound ≡ h.bound) × (h'.reserved ≡ h.reserved)
 
 module _ {X : Type 0} (k : Kind X) where
   -- the first ranks before the second, or they rank alike

@@ -1,9 +1,10 @@
 // One side of the book: its resting orders, what is asked of them, and one fill with the first.
-ghost use Rattle.std.specs.Prelude.{◌≡◌, ◌<◌, [], ◌++◌, length, IfOk};
+ghost use Rattle.std.specs.Prelude.{◌≡◌, ◌<◌, ◌++◌, length, IfOk};
 ghost use Rattle.std.specs.List.Sorted.{IsPermutation};
-ghost use Rattle.heap.specs.Calls.{Adds};
-ghost use Rattle.book.specs.Book.{Roomy, room};
-ghost use Rattle.book.specs.Side.{Best, Keeps, MeetsBest, Stood, any_crosses, left_over};
+ghost use Rattle.heap.specs.Calls.{Adds, Fresh};
+ghost use Rattle.heap.specs.Heaps.{Upto};
+ghost use Rattle.book.specs.Book.{room};
+ghost use Rattle.book.specs.Side.{Best, Keeps, MeetsBest, any_crosses, left_over};
 
 use crate::fill::{Fill, fill_of};
 use crate::order::{Order, Resting};
@@ -21,8 +22,8 @@ pub(crate) struct Quotes<S: Quote> {
     heap: Heap<S>,
 }
 
-// Contracts see what the heap holds, the first quote at the front. There is always room for so many as a side may hold, and
-// they stand by rank.
+// Contracts see what the heap holds, the first quote at the front. The quotes always stand by rank, and there is room for so
+// many as a side may hold.
 impl<S: Quote> Model for Quotes<S> {
     ghost use Rattle.std.specs.Prelude.{◌≡◌};
     ghost use Rattle.heap.specs.Contents.{Contents};
@@ -39,7 +40,7 @@ impl<S: Quote> Model for Quotes<S> {
 impl<S: Quote> Quotes<S> {
     // A side on which nothing rests, with all the memory that it will ever need.
     pub(crate) fn new(heap: Global) -> Result<Quotes<S>, AllocError>
-        ensures { IfOk result (λ q. (q.items ≡ []) × Roomy q × Stood S.Ranked.key S.Ranked.upto q.items) }
+        ensures { IfOk result (λ q. Fresh (Upto S.Ranked.key S.Ranked.upto) room q) }
     {
         let heap = Heap::with_room(heap, ROOM)?;
         Ok(Quotes { heap })

@@ -23,8 +23,8 @@ pub struct Buffer {
     heap: Heap<Trade>,
 }
 
-// Contracts see the trades, the first of them at the front. There is always room for so many as the seats may have there,
-// and they stand by rank.
+// Contracts see the trades, the first of them at the front. They always stand by rank, and there is room for so many as the
+// seats may have there.
 impl Model for Buffer {
     ghost use Rattle.std.specs.Prelude.{◌≡◌, List};
     ghost use Rattle.heap.specs.Heaps.{Heaped};
