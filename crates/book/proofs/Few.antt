@@ -1,8 +1,10 @@
--- No side passes its room: the other side gets no order, and the order's own side gets one only where there is room.
+-- Each side keeps its room, and passes it never: the other side gets no order, and the order's own side gets one only where
+-- there is room.
 use Rattle.std.proofs.Common.{◌≡◌, ℕ, ◌-◌, ◌≤◌, Bool, true, not, ltb, List, [], ◌∷◌, ◌++◌, length, ap, ◌∙◌, ⊎_elim, arith, length-append}
 use Rattle.std.proofs.lemmas.List.Sorted.{length_permutation}
 use Rattle.std.proofs.lemmas.Bool.{and_parts, cases_Bool, cond_both}
 use Rattle.std.proofs.lemmas.Bool.Decides.{nat_tests, when_false, when_true}
+use Rattle.heap.specs.Contents.{Contents}
 use Rattle.book.specs.declared.order.Order.{Order}
 use Rattle.book.specs.declared.order.Booked.{Booked}
 use Rattle.book.specs.declared.fill.Fill.{Fill}
@@ -10,7 +12,6 @@ use Rattle.book.specs.Order.{at_rest}
 use Rattle.book.specs.Quote.{Kind}
 use Rattle.book.specs.Side.{any_crosses, left_over}
 use Rattle.book.specs.Matching.{Dealt, remains, rests}
-use Rattle.heap.specs.Contents.{Contents}
 use Rattle.book.specs.Book.{Few, Roomy, room}
 
 -- a side that may hold as many, and has memory for as many, has room as before

@@ -16,20 +16,14 @@ module _ {A : Type 0} (f : A → ℕ) where
   map_from_each (x ∷ xs) [] same each = absurd (omega (arith, same))
   map_from_each (x ∷ xs) (n ∷ ns) same each = ap₂ ◌∷◌ (each 0 x (omega arith)) (map_from_each xs ns (omega (arith, same)) (λ i d below. each (suc i) d (omega (arith, below))))
 
-  -- where each item's value is 0, so is what is read at any place
-  none_from_each : (xs : List A) → ((i : ℕ) (d : A) → i < length xs → f (get_or xs i d) ≡ 0) → (k : ℕ) → slice_index (map f xs) k ≡ 0
-  none_from_each [] each k = refl
-  none_from_each (x ∷ xs) each zero = each 0 x (omega arith)
-  none_from_each (x ∷ xs) each (suc k) = none_from_each xs (λ i d below. each (suc i) d (omega (arith, below))) k
-
-  -- where each item's value is below a number, so is what is read at any place
-  below_from_each : (n : ℕ) → 0 < n → ((x : A) → f x < n) → (xs : List A) (k : ℕ) → slice_index (map f xs) k < n
-  below_from_each n some each [] k = some
-  below_from_each n some each (x ∷ xs) zero = each x
-  below_from_each n some each (x ∷ xs) (suc k) = below_from_each n some each xs k
+  -- what holds of 0 and of each item's value holds of what is read at any place
+  read_from_each : (P : ℕ → Type 0) → P 0 → (xs : List A) → ((i : ℕ) (d : A) → i < length xs → P (f (get_or xs i d))) → (k : ℕ) → P (slice_index (map f xs) k)
+  read_from_each P none [] each k = none
+  read_from_each P none (x ∷ xs) each zero = each 0 x (omega arith)
+  read_from_each P none (x ∷ xs) each (suc k) = read_from_each P none xs (λ i d below. each (suc i) d (omega (arith, below))) k
 
   pub unmarked_from_each : (xs : List A) → ((i : ℕ) (d : A) → i < length xs → f (get_or xs i d) ≡ 0) → (λ k. slice_index (map f xs) k) ≡ unmarked
-  unmarked_from_each xs each = fun_ext (none_from_each xs each)
+  unmarked_from_each xs each = fun_ext (read_from_each (λ n. n ≡ 0) refl xs each)
 
 -- the value at a place, once an item is set at a seat
 pub read_after_set : {A : Type 0} (f : A → ℕ) (xs : List A) (seat : ℕ) (x : A) (k : ℕ) → seat < length xs → get_or (map f (set xs seat x)) k 0 ≡ cond (k == seat) (f x) (get_or (map f xs) k 0)
@@ -41,4 +35,4 @@ same_after_set f xs seat x old was same = map-set_same f xs seat x old (same ∙
 
 -- every seat's mark is at a moment that there is
 pub moments_early : {R : Type 0} {g : _} (hands : List (Hand R g)) (k : ℕ) → moments hands k < limit
-moments_early hands k = below_from_each hand_moment limit (omega arith) (λ h. h.early) hands k
+moments_early hands k = read_from_each hand_moment (λ n. n < limit) (omega arith) hands (λ i d _. (get_or hands i d).early) k

@@ -228,19 +228,23 @@ of_first_few k xs (suc n) h =
     let d = h n (omega arith) in
     omega arith
 
+-- where no seat has more than 16 trades with one more of seat k, the buffer has room for them
+room_with : (seats : List Seat) (buffer : List Trade) (k : ℕ) → Balanced seats buffer → ((j : ℕ) → j < length seats → of_seat j buffer + is_one j k ≤ most_pending) → length buffer + before_one (length seats) k ≤ buffer_room
+room_with seats buffer k b each =
+    let few = b.few in
+    let all = of_first_all (length seats) buffer b.known in
+    let sum = of_first_few k buffer (length seats) each in
+    omega arith
+
 -- while a seat has a trade that is not yet collected, the buffer has room for one
 pub buffer_fits : (seats : List Seat) (buffer : List Trade) (k : ℕ) → k < length seats → (get_or seats k blank).collected < (get_or seats k blank).submitted → Balanced seats buffer → length buffer < buffer_room
 buffer_fits seats buffer k lt due b =
-    let few = b.few in
-    let all = of_first_all (length seats) buffer b.known in
     let own = before_some (length seats) k lt in
-    let sum = of_first_few k buffer (length seats) (λ j in'. let t = b.tallied j in' in grind (arith, nat_tests)) in
+    let sum = room_with seats buffer k b (λ j in'. let t = b.tallied j in' in grind (arith, nat_tests)) in
     omega arith
 
 -- the buffer never holds more than it has room for
 pub balanced_room : (seats : List Seat) (buffer : List Trade) → Balanced seats buffer → length buffer ≤ buffer_room
 balanced_room seats buffer b =
-    let few = b.few in
-    let all = of_first_all (length seats) buffer b.known in
-    let sum = of_first_few (length seats) buffer (length seats) (λ j in'. let t = b.tallied j in' in grind (arith, nat_tests)) in
+    let sum = room_with seats buffer (length seats) b (λ j in'. let t = b.tallied j in' in grind (arith, nat_tests)) in
     omega arith
